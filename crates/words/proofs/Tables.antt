@@ -1,0 +1,123 @@
+-- Tables: the list that a loop has made when it has stored f 0, .., f (n - 1) from the front, and the same in a middle part. Assumes nothing.
+use mathlib.Core.Path.{_≡_, refl, sym, ap, _∙_}
+use mathlib.Core.List.{List, [], _∷_, _++_, append-assoc, append-nil}
+use mathlib.Core.Logic.{⊎-elim}
+use Prim.Native.Nat.{ℕ, zero, suc, _+_, _-_, _≤_, _<_}
+use native.Mathlib.Nat.{not-suc-le-zero}
+use native.Mathlib.Numerals.{add-one}
+use native.Mathlib.Omega.{arith}
+use lib.ListN.{length, getD, take, drop, set, length-append, length-take, length-drop, List·getD-append, drop-of-length-le, take-append-drop}
+use lib.Seq.{drop-cons, set-at, getD-at, getD-take, getD-drop, getD-append-add, length-take-le, drop-drop}
+use Rattle.words.specs.Tables.{tabulate, written, window, placed}
+use Rattle.words.proofs.Tests.{last-or, le-or-lt}
+
+module _ (f : ℕ → ℕ) where
+  pub length-tabulate : (n : ℕ) → length (tabulate f n) ≡ n
+  unfolding tabulate
+  length-tabulate zero = refl
+  length-tabulate (suc n) = simp (length-append, length-tabulate n, add-one)
+
+  pub getD-tabulate : (n r : ℕ) → r < n → getD (tabulate f n) r 0 ≡ f r
+  unfolding tabulate
+  getD-tabulate zero r h = absurd (not-suc-le-zero h)
+  getD-tabulate (suc n) r h =
+      let ih = getD-tabulate n in
+      last-or (λ k. getD (tabulate f n ++ (f n ∷ [])) k 0 ≡ f k) n (getD-at (tabulate f n) (f n) [] 0 n (length-tabulate n))
+      (λ k l. List·getD-append (tabulate f n) (f n ∷ []) 0 k (rw (length-tabulate n) l) ∙ ih k l) r h
+
+  -- before the first store, and after one more
+  pub written-none : (t : List ℕ) → written f 0 t ≡ t
+  unfolding written tabulate
+  written-none t = refl
+
+  pub written-more : (n : ℕ) (t : List ℕ) → n < length t → set (written f n t) n (f n) ≡ written f (n + 1) t
+  unfolding written tabulate
+  written-more n t h =
+      rw (add-one, drop-cons t n 0) (set-at (tabulate f n) (getD t n 0) (drop (suc n) t) (f n) n (length-tabulate n)
+      ∙ simp append-assoc)
+
+  pub length-written : (n : ℕ) (t : List ℕ) → n ≤ length t → length (written f n t) ≡ length t
+  unfolding written
+  length-written n t h = simp (length-append, length-tabulate n, length-drop) (omega arith)
+
+  -- row by row: what is written, and what stays
+  pub getD-written : (n : ℕ) (t : List ℕ) (r : ℕ) → r < n → getD (written f n t) r 0 ≡ f r
+  unfolding written
+  getD-written n t r h = List·getD-append (tabulate f n) (drop n t) 0 r (rw (length-tabulate n) h) ∙ getD-tabulate n r h
+
+  pub written-stays : (n : ℕ) (t : List ℕ) (r : ℕ) → n ≤ r → getD (written f n t) r 0 ≡ getD t r 0
+  unfolding written
+  written-stays n t r h =
+      let e : length (tabulate f n) + (r - n) ≡ r = omega (arith, length-tabulate n) in
+      rw e at (getD-append-add (tabulate f n) (drop n t) (r - n) 0) ∙ getD-drop n t (r - n) 0 ∙ ap (λ (k : ℕ). getD t k 0) (omega arith)
+
+  -- a table of just n rows, whatever it held
+  pub written-all : (n : ℕ) (t : List ℕ) → length t ≡ n → written f n t ≡ tabulate f n
+  unfolding written
+  written-all n t e = rw (drop-of-length-le t {i = n} (omega arith)) (append-nil (tabulate f n))
+
+  -- ---- a middle part
+
+  module _ (a m : ℕ) (t : List ℕ) (fits : a + m ≤ length t) where
+    front : length (take a t) ≡ a
+    front = length-take-le a t (omega arith)
+
+    pub length-placed : length (placed f a m t) ≡ length t
+    unfolding placed
+    length-placed = simp (length-append, front, length-written m (drop a t) (simp length-drop (omega arith)), length-drop) (omega arith)
+
+    pub getD-placed : (r : ℕ) → r < m → getD (placed f a m t) (a + r) 0 ≡ f r
+    unfolding placed
+    getD-placed r h =
+        ap (λ (k : ℕ). getD (take a t ++ written f m (drop a t)) (k + r) 0) (sym front)
+        ∙ getD-append-add (take a t) (written f m (drop a t)) r 0 ∙ getD-written m (drop a t) r h
+
+    pub placed-before : (r : ℕ) → r < a → getD (placed f a m t) r 0 ≡ getD t r 0
+    unfolding placed
+    placed-before r h = List·getD-append (take a t) (written f m (drop a t)) 0 r (rw front h) ∙ getD-take a t r 0 h
+
+    pub placed-after : (r : ℕ) → a + m ≤ r → getD (placed f a m t) r 0 ≡ getD t r 0
+    unfolding placed
+    placed-after r h =
+        let e : length (take a t) + (r - a) ≡ r = omega (arith, front) in
+        rw e at (getD-append-add (take a t) (written f m (drop a t)) (r - a) 0)
+        ∙ written-stays m (drop a t) (r - a) (omega arith) ∙ getD-drop a t (r - a) 0 ∙ ap (λ (k : ℕ). getD t k 0) (omega arith)
+
+-- the window: its length and its readings
+module _ (a m : ℕ) (x : List ℕ) (fits : a + m ≤ length x) where
+  pub length-window : length (window a m x) ≡ m
+  unfolding window
+  length-window = length-take-le m (drop a x) (simp length-drop (omega arith))
+
+  pub getD-window : (p : ℕ) → p < m → getD (window a m x) p 0 ≡ getD x (a + p) 0
+  unfolding window
+  getD-window p h = getD-take m (drop a x) p 0 h ∙ getD-drop a x p 0
+
+-- A loop that fills a table: t is t₀ with the first r of n rows written. Its invariant, and what each turn and the end make of it.
+pub record Rows (f : ℕ → ℕ) (n : ℕ) (t₀ t : List ℕ) (r : ℕ) : Type 0 where
+  pub within : r ≤ n
+  pub room : n ≤ length t₀
+  pub made : t ≡ written f r t₀
+
+pub rows-none : {f : ℕ → ℕ} {n : ℕ} {t : List ℕ} → n ≤ length t → Rows f n t t 0
+rows-none {f} {t = t} h = record { within = omega arith; room = h; made = sym (written-none f t) }
+
+module _ {f : ℕ → ℕ} {n : ℕ} {t₀ t : List ℕ} {r : ℕ} (w : Rows f n t₀ t r) where
+  pub rows-length : length t ≡ length t₀
+  rows-length = ap length (w .made) ∙ length-written f r t₀ (omega arith)
+
+  pub rows-inside : r < n → r < length t
+  rows-inside h = omega (arith, rows-length)
+
+  pub rows-at : (j : ℕ) → j < r → getD t j 0 ≡ f j
+  rows-at j h = ap (λ (y : List ℕ). getD y j 0) (w .made) ∙ getD-written f r t₀ j h
+
+  pub rows-more : {v : ℕ} → r < n → v ≡ f r → Rows f n t₀ (set t r v) (r + 1)
+  rows-more h e = record {
+    within = omega arith;
+    room = w .room;
+    made = rw (e, w .made) (written-more f r t₀ (omega arith));
+  }
+
+  pub rows-done : n ≤ r → t ≡ written f n t₀
+  rows-done h = w .made ∙ ap (λ (k : ℕ). written f k t₀) (omega arith)
