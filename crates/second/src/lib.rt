@@ -122,6 +122,29 @@ pub fn covers(x: &[u8], i: usize, q: usize) -> bool {
     covered(x, i, q) == i
 }
 
+// List of covers: the shortest cover of x[1..i] that is longer than q; the greatest number if there is none.
+pub fn cover_after(x: &[u8], i: usize, q: usize) -> usize {
+    let mut p = q;
+    while p < i {
+        p += 1;
+        if covers(x, i, p) {
+            return p;
+        }
+    }
+    usize::MAX
+}
+
+// How many covers x[1..i] has.
+pub fn covers_used(x: &[u8], i: usize) -> usize {
+    let mut used = 0;
+    let mut q = 0;
+    while q < i {
+        q += 1;
+        used += one_if(covers(x, i, q));
+    }
+    used
+}
+
 // Cover table: the longest proper cover, 0 if none.
 pub fn cover(x: &[u8], i: usize) -> usize {
     let mut q = i;
@@ -136,7 +159,11 @@ pub fn cover(x: &[u8], i: usize) -> usize {
 
 // What x[1..q] is worth at i: the positions that it covers, if it is a border.
 fn worth(x: &[u8], i: usize, q: usize) -> usize {
-    if is_border(x, i, q) { covered(x, i, q) } else { 0 }
+    if is_border(x, i, q) {
+        covered(x, i, q)
+    } else {
+        0
+    }
 }
 
 fn greater(a: usize, b: usize) -> usize {
@@ -244,7 +271,11 @@ fn weighs(x: &[u8], i: usize, q: usize) -> bool {
     if q == 0 {
         return false;
     }
-    if is_border(x, i, q) { cover(x, q) == 0 } else { false }
+    if is_border(x, i, q) {
+        cover(x, q) == 0
+    } else {
+        false
+    }
 }
 
 // The longest entry of the weighed list at i that is shorter than `top`; 0 if none.

@@ -1,0 +1,4 @@
+// What the trial stands on: the tally of a kind of comparison, the way in which tables are lent, and the logs that are tried.
+pub mod logs;
+pub mod tally;
+pub mod way;
