@@ -134,17 +134,6 @@ pub fn cover_after(x: &[u8], i: usize, q: usize) -> usize {
     usize::MAX
 }
 
-// How many covers x[1..i] has.
-pub fn covers_used(x: &[u8], i: usize) -> usize {
-    let mut used = 0;
-    let mut q = 0;
-    while q < i {
-        q += 1;
-        used += one_if(covers(x, i, q));
-    }
-    used
-}
-
 // Cover table: the longest proper cover, 0 if none.
 pub fn cover(x: &[u8], i: usize) -> usize {
     let mut q = i;

@@ -1,9 +1,13 @@
 // The logs that are tried: all of a length over a few letters, and long ones of six kinds.
 
+fn at(x: &[u8], k: usize) -> u8 {
+    if k < x.len() { x[k] } else { 0 }
+}
+
 // The letter that the last digit of v names.
 fn letter(letters: &[u8], v: usize) -> u8 {
     let base = letters.len();
-    if base == 0 { 0 } else { letters[v % base] }
+    if base == 0 { 0 } else { at(letters, v % base) }
 }
 
 fn without_last_digit(letters: &[u8], v: usize) -> usize {
@@ -106,10 +110,7 @@ fn fibonacci(x: &[u8], k: usize) -> u8 {
         return 20;
     }
     let back = fibonacci_below(k);
-    if k < back {
-        return 0;
-    }
-    if k - back < x.len() { x[k - back] } else { 0 }
+    if k < back { 0 } else { at(x, k - back) }
 }
 
 fn reading(kind: u8, x: &[u8], k: usize, seed: u64) -> u8 {

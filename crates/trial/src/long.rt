@@ -1,0 +1,67 @@
+// Long logs. Those of a few hundred readings are compared in full; in longer ones the second way is too slow to be taken at every row.
+use trial_base::logs::{CYCLE, write};
+use trial_base::tally::Tally;
+use trial_base::way::Way;
+
+use crate::small::every_call;
+
+const STRANGE: u16 = 50000;
+
+fn first_of(x: &[u8], n: usize) -> &[u8] {
+    if x.len() < n {
+        return &x[0..0];
+    }
+    &x[0..n]
+}
+
+fn some_windows(t: Tally, x: &[u8]) -> Tally {
+    let w = Way::whole(STRANGE);
+    let t1 = trial_windows::at(t, w, x, 1000, 150);
+    let t2 = trial_windows::at(t1, w, x, 3946, 150);
+    let t3 = trial_windows::at(t2, w, x, 4095, 1);
+    trial_windows::at(t3, w, x, 3947, 150)
+}
+
+fn written(kind: u8, x: &mut [u8]) -> u64 {
+    let w = Way {
+        was: STRANGE,
+        first: 300,
+        every: 379,
+    };
+    write(kind, x);
+    let t1 = every_call(Tally::new(), Way::whole(STRANGE), first_of(x, 100));
+    let t2 = every_call(t1, w, x);
+    some_windows(t2, x).end()
+}
+
+// A log of 4096 readings of this kind, its first hundred as a log of their own, and some windows: answers how much differed.
+pub fn of(kind: u8) -> u64 {
+    let mut x = [0u8; 4096];
+    written(kind, &mut x)
+}
+
+fn edge(t: Tally, x: &[u8], n: usize) -> Tally {
+    let w = Way {
+        was: STRANGE,
+        first: 20,
+        every: 1999,
+    };
+    let log = first_of(x, n);
+    let t1 = every_call(t, w, log);
+    let t2 = trial_windows::at(t1, w, log, 0, n);
+    trial_windows::at(t2, w, log, n, 1)
+}
+
+fn at_edges(x: &mut [u8]) -> u64 {
+    write(CYCLE, x);
+    let t1 = edge(Tally::new(), x, 0);
+    let t2 = edge(t1, x, 1);
+    let t3 = edge(t2, x, 4096);
+    edge(t3, x, 4097).end()
+}
+
+// The least and the greatest lengths, and those just past them: answers how much differed.
+pub fn edges() -> u64 {
+    let mut x = [0u8; 4097];
+    at_edges(&mut x)
+}

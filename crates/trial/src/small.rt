@@ -1,0 +1,100 @@
+// All logs of a length over a few letters.
+use trial_base::logs::{how_many, spell};
+use trial_base::tally::Tally;
+use trial_base::way::Way;
+
+pub const EVERY_CALL: u8 = 0;
+
+pub const HELD_SMALL: u8 = 1;
+
+pub const WINDOWS: u8 = 2;
+
+pub const FILES: u8 = 3;
+
+// What stands in a table before a call: numbers that no answer has, or some that answers have.
+const STRANGE: u16 = 50000;
+
+const SMALL: u16 = 0;
+
+fn one_less(n: usize) -> usize {
+    if n == 0 { 0 } else { n - 1 }
+}
+
+fn two_more(n: usize) -> usize {
+    std::num::wrapping_add_usize(n, 2)
+}
+
+// Every call but windows, with tables that are too short, that fit and that are longer.
+pub fn every_call(t: Tally, w: Way, x: &[u8]) -> Tally {
+    let n = x.len();
+    let t1 = trial_tables::with_rooms(t.log(), w, x, n, n);
+    let t2 = trial_tables::with_rooms(t1, w, x, one_less(n), two_more(n));
+    let t3 = trial_tables::with_rooms(t2, w, x, two_more(n), one_less(n));
+    trial_answers::all(t3, w, x)
+}
+
+// The window of m after a, and two whose sum comes round to a where it is made in a machine word.
+fn three_windows(t: Tally, x: &[u8], a: usize, m: usize) -> Tally {
+    let w = Way::whole(STRANGE);
+    let far = std::num::wrapping_sub_usize(a, m);
+    let t1 = trial_windows::at(t, w, x, a, m);
+    let t2 = trial_windows::at(t1, w, x, far, m);
+    trial_windows::at(t2, w, x, m, far)
+}
+
+fn windows_after(t: Tally, x: &[u8], a: usize) -> Tally {
+    let mut seen = t;
+    for m in 0..two_more(x.len()) {
+        seen = three_windows(seen, x, a, m);
+    }
+    seen
+}
+
+fn windows(t: Tally, x: &[u8]) -> Tally {
+    let mut seen = t.log();
+    for a in 0..two_more(x.len()) {
+        seen = windows_after(seen, x, a);
+    }
+    seen
+}
+
+fn one(t: Tally, what: u8, x: &[u8]) -> Tally {
+    match what {
+        EVERY_CALL => every_call(t, Way::whole(STRANGE), x),
+        HELD_SMALL => every_call(t, Way::whole(SMALL), x),
+        WINDOWS => windows(t, x),
+        _ => trial_files::compare(t.log(), x),
+    }
+}
+
+fn spelled(t: Tally, what: u8, letters: &[u8], v: usize, x: &mut [u8]) -> Tally {
+    spell(x, letters, v);
+    one(t, what, x)
+}
+
+fn numbered(t: Tally, what: u8, letters: &[u8], n: usize, v: usize) -> Tally {
+    let mut x = [0u8; 16];
+    if 16 < n {
+        return t;
+    }
+    spelled(t, what, letters, v, &mut x[0..n])
+}
+
+fn of_length(t: Tally, what: u8, letters: &[u8], n: usize) -> Tally {
+    let mut seen = t;
+    for v in 0..how_many(letters, n) {
+        seen = numbered(seen, what, letters, n, v);
+    }
+    seen
+}
+
+// All logs of 1 to `most` letters: answers how much differed.
+pub fn to(what: u8, letters: &[u8], most: usize) -> u64 {
+    let mut seen = Tally::new();
+    let mut n = 0;
+    while n < most {
+        n += 1;
+        seen = of_length(seen, what, letters, n);
+    }
+    seen.end()
+}
