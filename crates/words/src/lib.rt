@@ -1,3 +1,6 @@
+// The most readings that a log may have.
+pub const LONGEST: usize = 4096;
+
 // Floor 1: what every call answers. The definitions stand in specs/, the laws about them in proofs/; here are the shapes of the answers.
 // In each answer `number` is 0, or the number of the refusal with zeros in every other field.
 ghost use mathlib.Core.Path.{_≡_};
