@@ -18,3 +18,5 @@ pub mod FlatLog
 pub mod Meaning
 pub mod Refusals
 pub mod Periods
+pub mod Locality
+pub mod Places

@@ -5,10 +5,10 @@ use mathlib.Core.List.{List, [], _∷_}
 use Prim.Native.Nat.{ℕ, _+_, _≤_, _<_, min}
 use native.Mathlib.Omega.{arith}
 use lib.Dec.{eqb, ltb}
-use borrow.Author.Tests.{eqb-false, ltb-false, ltb-true, lt-ltb, le-ltb, eq-eqb, ne-eqb}
-use Rattle.words.specs.Refusals.{Refusal, firstNo, fewer, longest, outside, tableNo, logNo, prefixNo, coverTestNo, bestNo, windowNo}
+use borrow.Author.Tests.{eqb-false, ltb-false, ltb-true, le-ltb, eq-eqb, ne-eqb}
+use Rattle.words.specs.Refusals.{Refusal, firstNo, empty, long, fewer, longest, outside, tableNo, logNo, prefixNo, coverTestNo, bestNo, windowNo}
 use Rattle.words.specs.Answers.{accepted}
-use Rattle.words.proofs.Tests.{by-test, or-left, or-right}
+use Rattle.words.proofs.Tests.{by-test}
 
 -- any two outcomes that a contract allows are equal: each call's contract gives its whole outcome as an equation
 pub unique : {A : Type 0} {a b c : A} → a ≡ c → b ≡ c → a ≡ b
@@ -22,6 +22,45 @@ module _ {A : Type 0} where
   pub accepted-no : (k : ℕ) (v r : A) → (k ≡ 0 → ⊥) → accepted k v r ≡ r
   unfolding accepted
   accepted-no k v r e = rw (ne-eqb k 0 e)
+
+-- ---- the tests of a log come first
+
+module _ (n : ℕ) (ts : List Refusal) where
+  -- one of them passed: that is the answer
+  pub log-refused : (k : ℕ) → k ≡ logNo n → (k ≡ 0 → ⊥) → k ≡ firstNo (empty n ∷ long n ∷ ts)
+  unfolding logNo firstNo
+  log-refused k e nz = by-test (eqb n 0)
+      (λ t. e ∙ simp t)
+      (λ t. by-test (ltb longest n) (λ u. e ∙ simp (t, u)) (λ u. absurd (nz (e ∙ simp (t, u)))))
+
+  -- none did: the rest decides
+  pub log-passed : logNo n ≡ 0 → firstNo ts ≡ firstNo (empty n ∷ long n ∷ ts)
+  unfolding logNo firstNo
+  log-passed e = by-test (eqb n 0)
+      (λ t. absurd (omega (arith, simp t at e)))
+      (λ t. by-test (ltb longest n) (λ u. absurd (omega (arith, simp (t, u) at e))) (λ u. simp (t, u)))
+
+-- a test that passes, and one that fails
+pub first-yes : (b : Bool) (k : ℕ) (ts : List Refusal) → b ≡ true → k ≡ firstNo ((b, k) ∷ ts)
+unfolding firstNo
+first-yes b k ts e = simp e
+
+pub first-no : (b : Bool) (k : ℕ) (ts : List Refusal) → b ≡ false → firstNo ts ≡ firstNo ((b, k) ∷ ts)
+unfolding firstNo
+first-no b k ts e = simp e
+
+pub first-none : 0 ≡ firstNo []
+unfolding firstNo
+first-none = refl
+
+-- of two tables the smaller decides
+pub fewer-least : (a b : ℕ) (rs : List ℕ) (n : ℕ) → fewer (a ∷ b ∷ rs) n ≡ fewer (min a b ∷ rs) n
+unfolding fewer
+fewer-least a b rs n = by-test (ltb (min a b) n)
+    (λ t. by-test (ltb a n)
+    (λ u. simp (t, u))
+    (λ u. by-test (ltb b n) (λ v. simp (t, u, v)) (λ v. absurd (omega (arith, ltb-true (min a b) n t, ltb-false a n u, ltb-false b n v)))))
+    (λ t. let h = ltb-false (min a b) n t in simp (t, le-ltb a n (omega arith), le-ltb b n (omega arith)))
 
 -- ---- no test passed
 
