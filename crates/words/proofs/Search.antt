@@ -290,6 +290,14 @@ module _ (p : ℕ → Bool) where
           (λ t. let z : length (rising p n) ≡ suc k = omega (arith, ltb-false (suc k) (length (rising p n)) t) in
           rw (getD-at (rising p n) n [] 0 (suc k) z) (rising-entry n k s .0)))
 
+  -- where 0 fails, no more than there are numbers from 1 on
+  pub rising-le : p 0 ≡ false → (n : ℕ) → length (rising p (suc n)) ≤ n
+  unfolding rising
+  rising-le z zero = rw z (omega arith)
+  rising-le z (suc n) =
+      let ih = rising-le z n in
+      cond-case (λ (l : List ℕ). length l ≤ suc n) (p (suc n)) (λ _. simp length-append (omega arith)) (λ _. omega arith)
+
 -- ---- two tests: equal below n, one within the other, apart at one number alone
 
 module _ (p p′ : ℕ → Bool) where
