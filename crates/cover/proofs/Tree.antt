@@ -385,4 +385,3 @@ module _ {x up kids : List ℕ} {per j : ℕ} (f : Forest x up kids per j 0) (h 
             (eq-or-lt-of-le b);
         kid = kid-grow;
       }
-

@@ -58,4 +58,3 @@ module _ {x : List ℕ} {j : ℕ} where
         zero-next : q ≡ 0 → (u ≡ 0) ⊎ Covers eqb x q u → Walk x j u
         zero-next z (inl e) = record { below = omega arith; covers = inl e; most = λ p c l. omega (arith, w .most p c l) }
         zero-next z (inr c) = absurd (omega arith)
-

@@ -41,7 +41,6 @@ pub record Forest (x up kids : List ℕ) (per j e : ℕ) : Type 0 where
   pub jump : (m : ℕ) → m ≤ j → Jump x up m (getD up m 0)
   pub kid : (a : ℕ) → a ≤ length x → getD kids a 0 ≡ howMany (kidTest x up a) (j + 1)
 
-
 -- what `find` leaves at row j, whose border is b: r is the longest proper cover, and it lives
 pub record Found (x up kids : List ℕ) (j b r : ℕ) : Type 0 where
   pub forest : Forest x up kids (j + 1 - b) j 0

@@ -22,15 +22,7 @@ fn retire(x: &[u8], t: &[u16], up: &mut [u16], kids: &mut [u16], j: usize, p: us
 }
 
 // The window starts at `to`, no longer at `from`.
-fn advance(
-    x: &[u8],
-    t: &[u16],
-    up: &mut [u16],
-    kids: &mut [u16],
-    j: usize,
-    from: usize,
-    to: usize,
-)
+fn advance(x: &[u8], t: &[u16], up: &mut [u16], kids: &mut [u16], j: usize, from: usize, to: usize)
     requires { ⌜ Filled coverRow (now x) (now t) j × Forest (now x) (now up) (now kids) from j 0 × (from ≤ to) × (to ≤ j + 1) × (length (now x) ≤ longest) ⌝ }
     ensures { λ _. ⌜ Forest (now (x .entry)) (now (up .exit)) (now (kids .exit)) to j 0 ⌝ }
 {

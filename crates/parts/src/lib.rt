@@ -38,7 +38,13 @@ fn next(p: words::Part) -> usize
 }
 
 // The parts from the prefix of length i on, into the places from d on. Each part is at most half of the one before, so there is a place for each.
-fn descend(x: &[u8], border: &[u16], i: usize, above: words::Breakdown, d: usize) -> words::Breakdown
+fn descend(
+    x: &[u8],
+    border: &[u16],
+    i: usize,
+    above: words::Breakdown,
+    d: usize,
+) -> words::Breakdown
     requires { ⌜ Holds borderRow (now x) (now border) × Deep (now x) i d ⌝ }
     ensures { λ r. ⌜ Broken (now (x .entry)) i d above r ⌝ }
 {

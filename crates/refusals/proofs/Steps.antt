@@ -2,13 +2,13 @@
 use mathlib.Core.Bool.{Bool, true, false, _||_}
 use mathlib.Core.Path.{_≡_, refl, sym, _∙_}
 use mathlib.Core.List.{List, [], _∷_}
-use Prim.Native.Nat.{ℕ, _+_, _-_, _≤_, _<_}
+use Prim.Native.Nat.{ℕ, _+_, _-_, _≤_, _<_, min}
 use native.Mathlib.Omega.{arith}
 use lib.Dec.{eqb, ltb}
 use borrow.Author.Tests.{eq-eqb, ne-eqb, lt-ltb, le-ltb}
 use Rattle.words.specs.Refusals.{longest, firstNo, fewer, outside, logNo, tableNo, prefixNo, coverTestNo, bestNo, windowNo}
 use Rattle.words.proofs.Tests.{by-test, or-left, or-right}
-use Rattle.words.proofs.Refusals.{log-refused, log-passed, first-yes, first-no, first-none}
+use Rattle.words.proofs.Refusals.{log-refused, log-passed, first-yes, first-no, first-none, fewer-least}
 
 -- ---- `log`
 
@@ -108,6 +108,18 @@ module _ (n : ℕ) {k : ℕ} (e : k ≡ logNo n) where
         pub window-fits : a + m ≤ room → 0 ≡ windowNo n a m (room ∷ [])
         unfolding windowNo fewer place
         window-fits s = first-none ∙ first-no (ltb room (a + m) || false) 4 [] (simp (le-ltb room (a + m) s)) ∙ first-no place 3 _ in-window ∙ log-passed n _ (sym e ∙ z)
+
+-- ---- of several tables the smallest decides
+
+pub two-tables : (n a b : ℕ) {m r : ℕ} → m ≡ min a b → r ≡ tableNo n (m ∷ []) → r ≡ tableNo n (a ∷ b ∷ [])
+unfolding tableNo firstNo
+two-tables n a b d e = rw (fewer-least a b [] n, ← d) e
+
+pub five-tables : (n a m r1 r2 r3 r4 r5 : ℕ) {s2 s3 s4 s5 r : ℕ} → s2 ≡ min r1 r2 → s3 ≡ min s2 r3 → s4 ≡ min s3 r4 → s5 ≡ min s4 r5
+    → r ≡ windowNo n a m (s5 ∷ []) → r ≡ windowNo n a m (r1 ∷ r2 ∷ r3 ∷ r4 ∷ r5 ∷ [])
+unfolding windowNo firstNo
+five-tables n a m r1 r2 r3 r4 r5 d2 d3 d4 d5 e =
+    rw (fewer-least r1 r2 (r3 ∷ r4 ∷ r5 ∷ []) (a + m), ← d2, fewer-least _ r3 (r4 ∷ r5 ∷ []) (a + m), ← d3, fewer-least _ r4 (r5 ∷ []) (a + m), ← d4, fewer-least _ r5 [] (a + m), ← d5) e
 
 -- ---- `cover_test`, over `prefix`
 

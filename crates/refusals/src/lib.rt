@@ -41,6 +41,20 @@ pub fn table(n: usize, room: usize) -> u8
     0
 }
 
+// The smaller of two.
+fn least(a: usize, b: usize) -> usize
+    ensures { λ r. ⌜ r ≡ min a b ⌝ }
+{
+    if a < b { a } else { b }
+}
+
+// With two lent tables.
+pub fn two_tables(n: usize, a: usize, b: usize) -> u8
+    ensures { λ r. ⌜ r ≡ tableNo n (a ∷ b ∷ []) ⌝ }
+{
+    table(n, least(a, b))
+}
+
 // At the prefix of length i.
 pub fn prefix(n: usize, i: usize) -> u8
     ensures { λ r. ⌜ r ≡ prefixNo n i ⌝ }
@@ -89,8 +103,8 @@ pub fn best(n: usize, b: usize) -> u8
     0
 }
 
-// A window of m readings after the first a, with lent tables of at least so many entries. The sum of a and m may be above every usize.
-pub fn window(n: usize, a: usize, m: usize, room: usize) -> u8
+// A window of m readings after the first a, with a lent table of so many entries. The sum of a and m may be above every usize.
+fn window_in(n: usize, a: usize, m: usize, room: usize) -> u8
     ensures { λ r. ⌜ r ≡ windowNo n a m (room ∷ []) ⌝ }
 {
     let no = log(n);
@@ -112,9 +126,18 @@ pub fn window(n: usize, a: usize, m: usize, room: usize) -> u8
     0
 }
 
-// The smaller of two.
-pub fn least(a: usize, b: usize) -> usize
-    ensures { λ r. ⌜ r ≡ min a b ⌝ }
+// With five lent tables.
+pub fn window(
+    n: usize,
+    a: usize,
+    m: usize,
+    r1: usize,
+    r2: usize,
+    r3: usize,
+    r4: usize,
+    r5: usize,
+) -> u8
+    ensures { λ r. ⌜ r ≡ windowNo n a m (r1 ∷ r2 ∷ r3 ∷ r4 ∷ r5 ∷ []) ⌝ }
 {
-    if a < b { a } else { b }
+    window_in(n, a, m, least(least(least(least(r1, r2), r3), r4), r5))
 }

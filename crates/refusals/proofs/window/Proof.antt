@@ -1,6 +1,6 @@
 -- `refusals::window` meets its contract. Assumes nothing.
 use borrow.Author.Needs.{needs}
-use Rattle.refusals.proofs.Steps.{window-log, window-none, window-wide, window-late, window-short, window-fits}
+use Rattle.refusals.proofs.Steps.{five-tables}
 use Rattle.refusals.proofs.window.Statement.{statement}
 use Rattle.refusals.proofs.window.Tie as tie
 
@@ -9,10 +9,8 @@ window-spec =
     tie.close
     (tie.spec
     (λ c κs. search needs)
-    (λ c. search window-log)
-    (λ c. search window-none)
-    (λ c. search window-wide)
-    (λ c. search window-late)
-    (λ c. search needs)
-    (λ c. search window-short)
-    (λ c. search window-fits))
+    (λ c κs. search needs)
+    (λ c κs. search needs)
+    (λ c κs. search needs)
+    (λ c κs. search needs)
+    (λ c. search five-tables))
