@@ -1,8 +1,15 @@
 // Holds each call that only answers, on one log, to the second way.
-use trial_base::tally::{NORMAL, BREAKDOWN, COVER_TEST, WEIGHED, BEST_PATTERN, Tally};
-use trial_base::way::{Way, wide};
 use second::Form;
-use words::{CoverTest, Part};
+use trial_base::tally::BEST_PATTERN;
+use trial_base::tally::BREAKDOWN;
+use trial_base::tally::COVER_TEST;
+use trial_base::tally::NORMAL;
+use trial_base::tally::Tally;
+use trial_base::tally::WEIGHED;
+use trial_base::way::Way;
+use trial_base::way::wide;
+use words::CoverTest;
+use words::Part;
 
 // The place asked for; 0 where the call is refused, at which the second way gives zeros.
 fn accepted(number: u8, i: usize) -> usize {
@@ -13,7 +20,10 @@ fn normal(x: &[u8], i: usize) -> bool {
     let got = finder::normal_form(x, i);
     let number = second_no::prefix(x.len(), i);
     let want = second::normal(x, accepted(number, i));
-    (got.number == number) & (wide(got.k1) == want.k1) & (wide(got.k2) == want.k2) & (wide(got.k) == want.k)
+    (got.number == number)
+        & (wide(got.k1) == want.k1)
+        & (wide(got.k2) == want.k2)
+        & (wide(got.k) == want.k)
 }
 
 fn same_places(x: &[u8], i: usize, lens: [u16; 12]) -> bool {
@@ -50,7 +60,9 @@ fn weighed(x: &[u8], i: usize) -> bool {
 fn limit(x: &[u8], i: usize) -> bool {
     let got = finder::weighed_list(x, i);
     let number = second_no::prefix(x.len(), i);
-    (got.number == number) & (wide(got.limit) == second::limit(accepted(number, i))) & (got.used <= got.limit)
+    (got.number == number)
+        & (wide(got.limit) == second::limit(accepted(number, i)))
+        & (got.used <= got.limit)
 }
 
 fn at_place(t: Tally, w: Way, x: &[u8], i: usize) -> Tally {
@@ -69,7 +81,12 @@ fn at_places(t: Tally, w: Way, x: &[u8]) -> Tally {
         seen = at_place(seen, w, x, i);
         i += 1;
     }
-    at_place(at_place(seen, w, x, i), w, x, std::num::wrapping_add_usize(i, 1))
+    at_place(
+        at_place(seen, w, x, i),
+        w,
+        x,
+        std::num::wrapping_add_usize(i, 1),
+    )
 }
 
 // An answer of the cover test as a number: that of the refusal, or one that no refusal has.
@@ -95,7 +112,12 @@ fn covers_by_second(x: &[u8], i: usize, q: usize) -> u16 {
 
 fn cover_test(t: Tally, w: Way, x: &[u8], i: usize, q: usize) -> Tally {
     if w.picks(q, i) {
-        return t.see(COVER_TEST, x, i, covers(x, i, q) == covers_by_second(x, i, q));
+        return t.see(
+            COVER_TEST,
+            x,
+            i,
+            covers(x, i, q) == covers_by_second(x, i, q),
+        );
     }
     t
 }
@@ -107,11 +129,21 @@ fn cover_tests_at(t: Tally, w: Way, x: &[u8], i: usize) -> Tally {
         seen = cover_test(seen, w, x, i, q);
         q += 1;
     }
-    cover_test(cover_test(seen, w, x, i, q), w, x, i, std::num::wrapping_add_usize(q, 1))
+    cover_test(
+        cover_test(seen, w, x, i, q),
+        w,
+        x,
+        i,
+        std::num::wrapping_add_usize(q, 1),
+    )
 }
 
 fn cover_tests_from(t: Tally, w: Way, x: &[u8], i: usize) -> Tally {
-    if w.picks(i, x.len()) { cover_tests_at(t, w, x, i) } else { t }
+    if w.picks(i, x.len()) {
+        cover_tests_at(t, w, x, i)
+    } else {
+        t
+    }
 }
 
 // Cover tests of every pattern at every place, those that are refused too.
@@ -122,11 +154,19 @@ fn cover_tests(t: Tally, w: Way, x: &[u8]) -> Tally {
         seen = cover_tests_from(seen, w, x, i);
         i += 1;
     }
-    cover_tests_from(cover_tests_from(seen, w, x, i), w, x, std::num::wrapping_add_usize(i, 1))
+    cover_tests_from(
+        cover_tests_from(seen, w, x, i),
+        w,
+        x,
+        std::num::wrapping_add_usize(i, 1),
+    )
 }
 
 fn same_part(got: Part, want: Form) -> bool {
-    (wide(got.len) == want.len) & (wide(got.k1) == want.k1) & (wide(got.k2) == want.k2) & (wide(got.k) == want.k)
+    (wide(got.len) == want.len)
+        & (wide(got.k1) == want.k1)
+        & (wide(got.k2) == want.k2)
+        & (wide(got.k) == want.k)
 }
 
 fn same_parts(x: &[u8], parts: [Part; 13]) -> bool {

@@ -30,13 +30,13 @@ pub const BEST_PATTERN: u8 = 25;
 pub const PLANT_FILE: u8 = 26;
 
 pub struct Tally {
-    pub logs: u64,
+    pub tried: u64,
     pub compared: u64,
     pub different: u64,
 }
 
 // One more. At the greatest number the count stays: it must not come round to 0.
-fn more(n: u64) -> u64 {
+fn one_more(n: u64) -> u64 {
     if n < u64::MAX { n + 1 } else { n }
 }
 
@@ -89,7 +89,7 @@ fn name(call: u8) {
     column(call);
 }
 
-// The first twelve readings: all of a small log.
+// The first twelve readings: the whole of a small log.
 fn readings(x: &[u8]) {
     let mut k = 0;
     while k < x.len() {
@@ -106,9 +106,9 @@ fn tell(call: u8, x: &[u8], row: usize) {
     name(call);
     say(b", row");
     number(row as u64);
-    say(b", log length");
+    say(b", length");
     number(x.len() as u64);
-    say(b", log");
+    say(b":");
     readings(x);
     say(b";");
 }
@@ -116,34 +116,35 @@ fn tell(call: u8, x: &[u8], row: usize) {
 impl Tally {
     pub fn new() -> Tally {
         Tally {
-            logs: 0,
+            tried: 0,
             compared: 0,
             different: 0,
         }
     }
 
-    pub fn log(mut self) -> Tally {
-        self.logs = more(self.logs);
+    // One more log or file.
+    pub fn more(mut self) -> Tally {
+        self.tried = one_more(self.tried);
         self
     }
 
     // One comparison, at a row of a call on x. Row 0 is the call's own answer.
     pub fn see(mut self, call: u8, x: &[u8], row: usize, same: bool) -> Tally {
-        self.compared = more(self.compared);
+        self.compared = one_more(self.compared);
         if same {
             return self;
         }
         if self.different == 0 {
             tell(call, x, row);
         }
-        self.different = more(self.different);
+        self.different = one_more(self.different);
         self
     }
 
-    // Ends the kind's line, and answers how much differed.
-    pub fn end(self) -> u64 {
-        number(self.logs);
-        say(b" logs,");
+    // Ends the kind's line, and answers how much differed. What was tried is logs or files.
+    pub fn end(self, tried: &[u8]) -> u64 {
+        number(self.tried);
+        say(tried);
         number(self.compared);
         say(b" comparisons,");
         number(self.different);

@@ -1,5 +1,6 @@
 // Holds the file reader, and what the report counts in its symbols, to the second way.
-use trial_base::tally::{PLANT_FILE, Tally};
+use trial_base::tally::PLANT_FILE;
+use trial_base::tally::Tally;
 
 const BYTES: usize = 4104;
 
@@ -20,7 +21,12 @@ pub fn compare(t: Tally, f: &[u8]) -> Tally {
     let t1 = t.see(PLANT_FILE, f, 0, logfile::number(f) == number);
     let t2 = t1.see(PLANT_FILE, f, 1, check::same(logfile::symbols(f), want));
     let t3 = t2.see(PLANT_FILE, f, 2, logfile::ceiling(want) == ceiling);
-    t3.see(PLANT_FILE, f, 3, logfile::held(want) == (ceiling == want.len()))
+    t3.see(
+        PLANT_FILE,
+        f,
+        3,
+        logfile::held(want) == (ceiling == want.len()),
+    )
 }
 
 fn put(f: &mut [u8], at: usize, b: u8) {
@@ -39,7 +45,7 @@ fn write(f: &mut [u8], n: usize, last: u8) {
 
 fn written(t: Tally, f: &mut [u8], n: usize, last: u8) -> Tally {
     write(f, n, last);
-    compare(t.log(), f)
+    compare(t.more(), f)
 }
 
 // A file of so many bytes.
@@ -74,5 +80,5 @@ pub fn long() -> u64 {
     let t4 = last_symbols(t3, 4095, 4095);
     let t5 = last_symbols(t4, 4096, 4096);
     let t6 = last_symbols(t5, 4097, 4097);
-    last_symbols(t6, 65535, 4096).end()
+    last_symbols(t6, 65535, 4096).end(b" files,")
 }

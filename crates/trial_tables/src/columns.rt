@@ -1,7 +1,17 @@
 // The four tables of a log.
-use trial_base::tally::{BORDER, PREFIX, BEST, COUNT, ENHANCED, Tally};
-use trial_base::way::{Way, fill};
-use crate::rows::{compare, least, part, total, written};
+use crate::rows::compare;
+use crate::rows::least;
+use crate::rows::part;
+use crate::rows::total;
+use crate::rows::written;
+use trial_base::tally::BEST;
+use trial_base::tally::BORDER;
+use trial_base::tally::COUNT;
+use trial_base::tally::ENHANCED;
+use trial_base::tally::PREFIX;
+use trial_base::tally::Tally;
+use trial_base::way::Way;
+use trial_base::way::fill;
 use words::Weighing;
 
 fn write(column: u8, x: &[u8], table: &mut [u16]) -> u8 {
@@ -31,7 +41,14 @@ fn asked_enhanced(w: Way, x: &[u8], best: &mut [u16], count: &mut [u16]) -> Weig
     finder::enhanced_table(x, best, count)
 }
 
-fn compare_enhanced(t: Tally, w: Way, x: &[u8], got: Weighing, best: &[u16], count: &[u16]) -> Tally {
+fn compare_enhanced(
+    t: Tally,
+    w: Way,
+    x: &[u8],
+    got: Weighing,
+    best: &[u16],
+    count: &[u16],
+) -> Tally {
     let number = second_no::table(x.len(), least(best.len(), count.len()));
     let s = written(number, 0, x.len());
     let t1 = t.see(ENHANCED, x, 0, got.number == number);

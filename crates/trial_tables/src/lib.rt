@@ -1,9 +1,12 @@
 // Holds each call that writes tables, on one log, to the second way.
-pub mod rows;
 pub mod columns;
 pub mod list;
+pub mod rows;
 
-use trial_base::tally::{BORDER, PREFIX, COVER, Tally};
+use trial_base::tally::BORDER;
+use trial_base::tally::COVER;
+use trial_base::tally::PREFIX;
+use trial_base::tally::Tally;
 use trial_base::way::Way;
 
 const ROOM: usize = 4100;

@@ -1,8 +1,13 @@
 // The list of covers.
-use trial_base::tally::{COVER_LIST, Tally};
-use trial_base::way::{Way, fill, wide};
-use crate::rows::{part, written};
-use words::{CoverTest, Listed};
+use crate::rows::part;
+use crate::rows::written;
+use trial_base::tally::COVER_LIST;
+use trial_base::tally::Tally;
+use trial_base::way::Way;
+use trial_base::way::fill;
+use trial_base::way::wide;
+use words::CoverTest;
+use words::Listed;
 
 fn accepts(x: &[u8], q: usize) -> bool {
     match finder::cover_test(x, x.len(), q) {
@@ -26,7 +31,11 @@ fn accepted_after(x: &[u8], q: usize) -> usize {
 
 // The next of the list of covers: by the second way where every row is compared, else by the cover test.
 fn cover_after(w: Way, x: &[u8], q: usize) -> usize {
-    if w.every == 1 { second::cover_after(x, x.len(), q) } else { accepted_after(x, q) }
+    if w.every == 1 {
+        second::cover_after(x, x.len(), q)
+    } else {
+        accepted_after(x, q)
+    }
 }
 
 // Row r of a list of so many covers, where the second way has q next.
@@ -37,12 +46,13 @@ fn listed(w: Way, q: usize, used: usize, r: usize, value: u16) -> bool {
     r < used && wide(value) == q
 }
 
-fn compare_rows(t: Tally, w: Way, x: &[u8], used: usize, table: &[u16]) -> Tally {
+// Of the log x the readings that the list is of: all, or none where the call is refused.
+fn compare_rows(t: Tally, w: Way, x: &[u8], of: &[u8], used: usize, table: &[u16]) -> Tally {
     let mut seen = t;
     let mut q = 0;
     for r in 0..table.len() {
-        q = cover_after(w, x, q);
-        seen = seen.see(COVER_LIST, x, r, listed(w, q, used, r, table[r]));
+        q = cover_after(w, of, q);
+        seen = seen.see(COVER_LIST, x, r + 1, listed(w, q, used, r, table[r]));
     }
     seen
 }
@@ -54,11 +64,11 @@ fn asked(w: Way, x: &[u8], table: &mut [u16]) -> Listed {
 
 fn compare_answer(t: Tally, w: Way, x: &[u8], got: Listed, table: &[u16]) -> Tally {
     let number = second_no::table(x.len(), table.len());
-    let p = part(x, written(number, 0, x.len()));
+    let of = part(x, written(number, 0, x.len()));
     let used = wide(got.used);
     let t1 = t.see(COVER_LIST, x, 0, got.number == number);
-    let t2 = t1.see(COVER_LIST, x, 0, used <= p.len());
-    compare_rows(t2, w, p, used, table)
+    let t2 = t1.see(COVER_LIST, x, 0, used <= of.len());
+    compare_rows(t2, w, x, of, used, table)
 }
 
 pub fn covers_of(t: Tally, w: Way, x: &[u8], table: &mut [u16]) -> Tally {

@@ -1,6 +1,11 @@
 // The rows of a lent table after a call: those written hold what the second way gives, all others what stood there before.
-use trial_base::tally::{BORDER, PREFIX, COVER, BEST, Tally};
-use trial_base::way::{Way, wide};
+use trial_base::tally::BEST;
+use trial_base::tally::BORDER;
+use trial_base::tally::COVER;
+use trial_base::tally::PREFIX;
+use trial_base::tally::Tally;
+use trial_base::way::Way;
+use trial_base::way::wide;
 
 // The rows after the first `from`, up to `to`: those that a call writes. They belong to the same readings of the log.
 pub struct Span {
@@ -10,7 +15,11 @@ pub struct Span {
 
 // A refused call writes none.
 pub fn written(number: u8, from: usize, to: usize) -> Span {
-    if number == 0 { Span { from, to } } else { Span { from: 0, to: 0 } }
+    if number == 0 {
+        Span { from, to }
+    } else {
+        Span { from: 0, to: 0 }
+    }
 }
 
 // The readings that the rows belong to: a log of its own.
@@ -72,7 +81,11 @@ fn summed(x: &[u8]) -> usize {
 
 // The weighed total of a log: by the second way where every row is compared, else the sum over the weighed lists.
 pub fn total(w: Way, x: &[u8]) -> usize {
-    if w.every == 1 { second::total(x) } else { summed(x) }
+    if w.every == 1 {
+        second::total(x)
+    } else {
+        summed(x)
+    }
 }
 
 pub fn least(a: usize, b: usize) -> usize {

@@ -1,13 +1,35 @@
 // Holds windows of one log to the second way.
 ghost use Prim.Native.Nat.{_≤_};
-use trial_base::tally::{BORDER, PREFIX, COVER, BEST, COUNT, WINDOW, Tally};
-use trial_base::way::{Way, fill};
-use trial_tables::rows::{Span, compare, least, part, total, written};
+use trial_base::tally::BEST;
+use trial_base::tally::BORDER;
+use trial_base::tally::COUNT;
+use trial_base::tally::COVER;
+use trial_base::tally::PREFIX;
+use trial_base::tally::Tally;
+use trial_base::tally::WINDOW;
+use trial_base::way::Way;
+use trial_base::way::fill;
+use trial_tables::rows::Span;
+use trial_tables::rows::compare;
+use trial_tables::rows::least;
+use trial_tables::rows::part;
+use trial_tables::rows::total;
+use trial_tables::rows::written;
 use words::Weighing;
 
 const ROOM: usize = 4100;
 
-fn asked(w: Way, x: &[u8], a: usize, m: usize, border: &mut [u16], prefix: &mut [u16], cover: &mut [u16], best: &mut [u16], count: &mut [u16]) -> Weighing {
+fn asked(
+    w: Way,
+    x: &[u8],
+    a: usize,
+    m: usize,
+    border: &mut [u16],
+    prefix: &mut [u16],
+    cover: &mut [u16],
+    best: &mut [u16],
+    count: &mut [u16],
+) -> Weighing {
     fill(w, border);
     fill(w, prefix);
     fill(w, cover);
@@ -16,7 +38,17 @@ fn asked(w: Way, x: &[u8], a: usize, m: usize, border: &mut [u16], prefix: &mut 
     finder::window(x, a, m, border, prefix, cover, best, count)
 }
 
-fn compare_all(t: Tally, w: Way, x: &[u8], s: Span, border: &[u16], prefix: &[u16], cover: &[u16], best: &[u16], count: &[u16]) -> Tally {
+fn compare_all(
+    t: Tally,
+    w: Way,
+    x: &[u8],
+    s: Span,
+    border: &[u16],
+    prefix: &[u16],
+    cover: &[u16],
+    best: &[u16],
+    count: &[u16],
+) -> Tally {
     let t1 = compare(t, w, WINDOW + BORDER, x, s, border);
     let t2 = compare(t1, w, WINDOW + PREFIX, x, s, prefix);
     let t3 = compare(t2, w, WINDOW + COVER, x, s, cover);
@@ -24,8 +56,26 @@ fn compare_all(t: Tally, w: Way, x: &[u8], s: Span, border: &[u16], prefix: &[u1
     compare(t4, w, WINDOW + COUNT, x, s, count)
 }
 
-fn compare_answer(t: Tally, w: Way, x: &[u8], a: usize, m: usize, got: Weighing, border: &[u16], prefix: &[u16], cover: &[u16], best: &[u16], count: &[u16]) -> Tally {
-    let room = least(border.len(), least(prefix.len(), least(cover.len(), least(best.len(), count.len()))));
+fn compare_answer(
+    t: Tally,
+    w: Way,
+    x: &[u8],
+    a: usize,
+    m: usize,
+    got: Weighing,
+    border: &[u16],
+    prefix: &[u16],
+    cover: &[u16],
+    best: &[u16],
+    count: &[u16],
+) -> Tally {
+    let room = least(
+        border.len(),
+        least(
+            prefix.len(),
+            least(cover.len(), least(best.len(), count.len())),
+        ),
+    );
     let number = second_no::window(x.len(), a, m, room);
     let s = written(number, a, std::num::wrapping_add_usize(a, m));
     let t1 = t.see(WINDOW, x, 0, got.number == number);
@@ -33,7 +83,18 @@ fn compare_answer(t: Tally, w: Way, x: &[u8], a: usize, m: usize, got: Weighing,
     compare_all(t2, w, x, s, border, prefix, cover, best, count)
 }
 
-fn lent(t: Tally, w: Way, x: &[u8], a: usize, m: usize, border: &mut [u16], prefix: &mut [u16], cover: &mut [u16], best: &mut [u16], count: &mut [u16]) -> Tally {
+fn lent(
+    t: Tally,
+    w: Way,
+    x: &[u8],
+    a: usize,
+    m: usize,
+    border: &mut [u16],
+    prefix: &mut [u16],
+    cover: &mut [u16],
+    best: &mut [u16],
+    count: &mut [u16],
+) -> Tally {
     let got = asked(w, x, a, m, border, prefix, cover, best, count);
     compare_answer(t, w, x, a, m, got, border, prefix, cover, best, count)
 }
@@ -76,7 +137,18 @@ pub fn with_rooms(t: Tally, w: Way, x: &[u8], a: usize, m: usize, which: usize) 
     let c = rows(which, 3, n, end);
     let e = rows(which, 4, n, end);
     let k = rows(which, 5, n, end);
-    lent(t, w, x, a, m, &mut border[0..b], &mut prefix[0..p], &mut cover[0..c], &mut best[0..e], &mut count[0..k])
+    lent(
+        t,
+        w,
+        x,
+        a,
+        m,
+        &mut border[0..b],
+        &mut prefix[0..p],
+        &mut cover[0..c],
+        &mut best[0..e],
+        &mut count[0..k],
+    )
 }
 
 // The window with tables of each size.

@@ -1,5 +1,6 @@
 // All logs of a length over a few letters.
-use trial_base::logs::{how_many, spell};
+use trial_base::logs::how_many;
+use trial_base::logs::spell;
 use trial_base::tally::Tally;
 use trial_base::way::Way;
 
@@ -9,10 +10,10 @@ pub const HELD_SMALL: u8 = 1;
 
 pub const WINDOWS: u8 = 2;
 
-pub const FILES: u8 = 3;
+const FILES: u8 = 3;
 
-// What stands in a table before a call: numbers that no answer has, or some that answers have.
-const STRANGE: u16 = 50000;
+// What stands in a table before a call: numbers that no answer has, or such as answers have.
+pub const STRANGE: u16 = 50000;
 
 const SMALL: u16 = 0;
 
@@ -27,7 +28,7 @@ fn two_more(n: usize) -> usize {
 // Every call but windows, with tables that are too short, that fit and that are longer.
 pub fn every_call(t: Tally, w: Way, x: &[u8]) -> Tally {
     let n = x.len();
-    let t1 = trial_tables::with_rooms(t.log(), w, x, n, n);
+    let t1 = trial_tables::with_rooms(t.more(), w, x, n, n);
     let t2 = trial_tables::with_rooms(t1, w, x, one_less(n), two_more(n));
     let t3 = trial_tables::with_rooms(t2, w, x, two_more(n), one_less(n));
     trial_answers::all(t3, w, x)
@@ -51,7 +52,7 @@ fn windows_after(t: Tally, x: &[u8], a: usize) -> Tally {
 }
 
 fn windows(t: Tally, x: &[u8]) -> Tally {
-    let mut seen = t.log();
+    let mut seen = t.more();
     for a in 0..two_more(x.len()) {
         seen = windows_after(seen, x, a);
     }
@@ -63,7 +64,7 @@ fn one(t: Tally, what: u8, x: &[u8]) -> Tally {
         EVERY_CALL => every_call(t, Way::whole(STRANGE), x),
         HELD_SMALL => every_call(t, Way::whole(SMALL), x),
         WINDOWS => windows(t, x),
-        _ => trial_files::compare(t.log(), x),
+        _ => trial_files::compare(t.more(), x),
     }
 }
 
@@ -88,13 +89,20 @@ fn of_length(t: Tally, what: u8, letters: &[u8], n: usize) -> Tally {
     seen
 }
 
-// All logs of 1 to `most` letters: answers how much differed.
-pub fn to(what: u8, letters: &[u8], most: usize) -> u64 {
+fn of_lengths(what: u8, letters: &[u8], from: usize, to: usize) -> Tally {
     let mut seen = Tally::new();
-    let mut n = 0;
-    while n < most {
-        n += 1;
+    for n in from..=to {
         seen = of_length(seen, what, letters, n);
     }
-    seen.end()
+    seen
+}
+
+// All logs of 1 to `most` letters: answers how much differed.
+pub fn logs(what: u8, letters: &[u8], most: usize) -> u64 {
+    of_lengths(what, letters, 1, most).end(b" logs,")
+}
+
+// All files of up to `most` bytes: answers how much differed.
+pub fn files(letters: &[u8], most: usize) -> u64 {
+    of_lengths(FILES, letters, 0, most).end(b" files,")
 }

@@ -1,8 +1,8 @@
--- `trial::small::of_length` is safe and ends. Assumes nothing.
+-- `trial_runs::small::of_length` is safe and ends. Assumes nothing.
 use Prim.Native.Nat.{_-_}
 use borrow.Author.Needs.{needs}
-use Rattle.trial.proofs.small.of_length.Statement.{statement}
-use Rattle.trial.proofs.small.of_length.Tie as tie
+use Rattle.trial_runs.proofs.small.of_length.Statement.{statement}
+use Rattle.trial_runs.proofs.small.of_length.Tie as tie
 
 abbrev Inv-loop : tie.InvT-loop
 Inv-loop what letters n seen₀ v₀ v-end seen v = Unit {0}

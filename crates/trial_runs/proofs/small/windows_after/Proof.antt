@@ -1,8 +1,8 @@
--- `trial::small::windows_after` is safe and ends. Assumes nothing.
+-- `trial_runs::small::windows_after` is safe and ends. Assumes nothing.
 use Prim.Native.Nat.{_-_}
 use borrow.Author.Needs.{needs}
-use Rattle.trial.proofs.small.windows_after.Statement.{statement}
-use Rattle.trial.proofs.small.windows_after.Tie as tie
+use Rattle.trial_runs.proofs.small.windows_after.Statement.{statement}
+use Rattle.trial_runs.proofs.small.windows_after.Tie as tie
 
 abbrev Inv-loop : tie.InvT-loop
 Inv-loop x a seen₀ m₀ m-end seen m = Unit {0}

@@ -1,8 +1,8 @@
--- `trial::small::windows` is safe and ends. Assumes nothing.
+-- `trial_runs::small::windows` is safe and ends. Assumes nothing.
 use Prim.Native.Nat.{_-_}
 use borrow.Author.Needs.{needs}
-use Rattle.trial.proofs.small.windows.Statement.{statement}
-use Rattle.trial.proofs.small.windows.Tie as tie
+use Rattle.trial_runs.proofs.small.windows.Statement.{statement}
+use Rattle.trial_runs.proofs.small.windows.Tie as tie
 
 abbrev Inv-loop : tie.InvT-loop
 Inv-loop x seen₀ a₀ a-end seen a = Unit {0}

@@ -1,11 +1,10 @@
-// Long logs. Those of a few hundred readings are compared in full; in longer ones the second way is too slow to be taken at every row.
-use trial_base::logs::{CYCLE, write};
+// Long logs. The second way is too slow to be taken at each of their rows.
+use crate::small::STRANGE;
+use crate::small::every_call;
+use trial_base::logs::CYCLE;
+use trial_base::logs::write;
 use trial_base::tally::Tally;
 use trial_base::way::Way;
-
-use crate::small::every_call;
-
-const STRANGE: u16 = 50000;
 
 fn first_of(x: &[u8], n: usize) -> &[u8] {
     if x.len() < n {
@@ -25,13 +24,13 @@ fn some_windows(t: Tally, x: &[u8]) -> Tally {
 fn written(kind: u8, x: &mut [u8]) -> u64 {
     let w = Way {
         was: STRANGE,
-        first: 300,
-        every: 379,
+        first: 400,
+        every: 199,
     };
     write(kind, x);
     let t1 = every_call(Tally::new(), Way::whole(STRANGE), first_of(x, 100));
     let t2 = every_call(t1, w, x);
-    some_windows(t2, x).end()
+    some_windows(t2, x).end(b" logs,")
 }
 
 // A log of 4096 readings of this kind, its first hundred as a log of their own, and some windows: answers how much differed.
@@ -57,7 +56,7 @@ fn at_edges(x: &mut [u8]) -> u64 {
     let t1 = edge(Tally::new(), x, 0);
     let t2 = edge(t1, x, 1);
     let t3 = edge(t2, x, 4096);
-    edge(t3, x, 4097).end()
+    edge(t3, x, 4097).end(b" logs,")
 }
 
 // The least and the greatest lengths, and those just past them: answers how much differed.
