@@ -8,7 +8,7 @@ static size_t least(size_t a, size_t b)
 }
 
 /* The failure function of Knuth, Morris and Pratt. */
-void c_border(const uint8_t *x, size_t n, uint16_t *border)
+static void border_of(const uint8_t *x, size_t n, uint16_t *border)
 {
     size_t b = 0;
     border[0] = 0;
@@ -21,7 +21,7 @@ void c_border(const uint8_t *x, size_t n, uint16_t *border)
 }
 
 /* The Z table: [l, r) is the match that reaches furthest right. */
-void c_prefix(const uint8_t *x, size_t n, uint16_t *prefix)
+static void prefix_of(const uint8_t *x, size_t n, uint16_t *prefix)
 {
     size_t l = 0, r = 0;
     prefix[0] = (uint16_t)n;
@@ -103,25 +103,35 @@ static uint32_t enhanced_of(const uint16_t *border, const uint16_t *cover, size_
     return total;
 }
 
+void c_border(const uint8_t *x, size_t n, uint16_t *border)
+{
+    border_of(x, n, border);
+}
+
+void c_prefix(const uint8_t *x, size_t n, uint16_t *prefix)
+{
+    prefix_of(x, n, prefix);
+}
+
 void c_cover(const uint8_t *x, size_t n, uint16_t *cover)
 {
     uint16_t border[LONGEST];
-    c_border(x, n, border);
+    border_of(x, n, border);
     cover_of(border, n, cover);
 }
 
 uint32_t c_enhanced(const uint8_t *x, size_t n, uint16_t *best, uint16_t *count)
 {
     uint16_t border[LONGEST], cover[LONGEST];
-    c_border(x, n, border);
+    border_of(x, n, border);
     cover_of(border, n, cover);
     return enhanced_of(border, cover, n, best, count);
 }
 
 uint32_t c_all(const uint8_t *x, size_t n, uint16_t *border, uint16_t *prefix, uint16_t *cover, uint16_t *best, uint16_t *count)
 {
-    c_border(x, n, border);
-    c_prefix(x, n, prefix);
+    border_of(x, n, border);
+    prefix_of(x, n, prefix);
     cover_of(border, n, cover);
     return enhanced_of(border, cover, n, best, count);
 }
