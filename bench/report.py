@@ -6,7 +6,7 @@ from pathlib import Path
 
 OPEN, CLOSE = "<!-- bench -->", "<!-- /bench -->"
 CALLS = ["border", "prefix", "cover", "enhanced", "window"]
-COLOURS = ["#1b6ca8", "#c0392b", "#2e8b57", "#8e44ad", "#d68910", "#444444"]
+COLOURS = ["#1b6ca8", "#c0392b", "#2e8b57", "#8e44ad", "#d68910", "#d65f9e"]
 
 
 class Measured:
