@@ -194,7 +194,8 @@ pub fn cover_table(log: &[u8], table: &mut [u16]) -> Result<(), Refusal> {
 /// ```
 pub fn enhanced_table(log: &[u8], best: &mut [u16], count: &mut [u16]) -> Result<u32, Refusal> {
     // SAFETY: each pair is a live slice's, and the tables are lent to this call alone.
-    unsafe { face::finder_enhanced_table(log.as_ptr(), log.len(), best.as_mut_ptr(), best.len(), count.as_mut_ptr(), count.len()) }.accepted()
+    unsafe { face::finder_enhanced_table(log.as_ptr(), log.len(), best.as_mut_ptr(), best.len(), count.as_mut_ptr(), count.len()) }
+        .accepted()
 }
 
 /// The `len` readings after the first `skipped`, judged as a log of their own. Answers their weighed total.

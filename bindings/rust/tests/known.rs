@@ -14,14 +14,7 @@ const ROWS: [Row; 6] = [
     Row { log: b"a", border: &[0], prefix: &[1], cover: &[0], best: &[0], count: &[0] },
     Row { log: b"aa", border: &[0, 1], prefix: &[2, 1], cover: &[0, 1], best: &[0, 1], count: &[0, 2] },
     Row { log: b"ab", border: &[0, 0], prefix: &[2, 0], cover: &[0, 0], best: &[0, 0], count: &[0, 0] },
-    Row {
-        log: b"aaaa",
-        border: &[0, 1, 2, 3],
-        prefix: &[4, 3, 2, 1],
-        cover: &[0, 1, 2, 3],
-        best: &[0, 1, 1, 1],
-        count: &[0, 2, 3, 4],
-    },
+    Row { log: b"aaaa", border: &[0, 1, 2, 3], prefix: &[4, 3, 2, 1], cover: &[0, 1, 2, 3], best: &[0, 1, 1, 1], count: &[0, 2, 3, 4] },
     Row {
         log: b"abaababab",
         border: &[0, 0, 1, 1, 2, 3, 2, 3, 2],
@@ -72,15 +65,8 @@ fn normal_forms() {
 
 #[test]
 fn lists() {
-    let covers: [(&[u8], &[u16]); 7] = [
-        (b"a", &[1]),
-        (b"aa", &[1, 2]),
-        (b"ab", &[2]),
-        (b"aaaa", &[1, 2, 3, 4]),
-        (b"abaababab", &[9]),
-        (P7, &[3, 8, 13]),
-        (P8, &[3, 28]),
-    ];
+    let covers: [(&[u8], &[u16]); 7] =
+        [(b"a", &[1]), (b"aa", &[1, 2]), (b"ab", &[2]), (b"aaaa", &[1, 2, 3, 4]), (b"abaababab", &[9]), (P7, &[3, 8, 13]), (P8, &[3, 28])];
     for (log, list) in covers {
         assert_eq!(finder::cover_list(log, &mut [0; 28]), Ok(list));
     }

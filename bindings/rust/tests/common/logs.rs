@@ -21,9 +21,7 @@ impl Chance {
 
 /// Every log of 1 to `longest` readings over the first `letters` letters.
 fn all(letters: usize, longest: u32) -> impl Iterator<Item = Vec<u8>> {
-    (1..=longest).flat_map(move |n| {
-        (0..letters.pow(n)).map(move |code| (0..n).map(|p| LETTERS[code / letters.pow(p) % letters]).collect())
-    })
+    (1..=longest).flat_map(move |n| (0..letters.pow(n)).map(move |code| (0..n).map(|p| LETTERS[code / letters.pow(p) % letters]).collect()))
 }
 
 pub fn small() -> impl Iterator<Item = Vec<u8>> {

@@ -42,7 +42,11 @@ pub fn cover(x: &[u8], i: usize) -> usize {
 pub fn enhanced(x: &[u8], i: usize) -> (usize, usize) {
     let weigh = |best: (usize, usize), q| {
         let count = covered(x, i, q);
-        if count > best.1 { (q, count) } else { best }
+        if count > best.1 {
+            (q, count)
+        } else {
+            best
+        }
     };
     borders(x, i).into_iter().fold((0, 0), weigh)
 }
