@@ -7,8 +7,9 @@ int main(void)
     uint16_t border[10];
     if (finder_border_table(log, 10, border, 10).number != 0)
         return 1;
+    printf("border table:");
     for (int i = 0; i < 10; i++)
-        printf("%d ", border[i]);
+        printf(" %d", border[i]);
     printf("\nbest pattern: the first %zu readings\n", finder_best_pattern(log, 10).len);
     return 0;
 }

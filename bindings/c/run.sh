@@ -17,7 +17,7 @@ echo "c header: C99, C11, C++98, C++17"
 
 gcc -std=c99 "${warnings[@]}" -I../../include example.c "$library" -o "$made/example"
 diff <("$made/example") - <<'SHOWN'
-0 0 1 2 3 1 2 3 4 5 
+border table: 0 0 1 2 3 1 2 3 4 5
 best pattern: the first 3 readings
 SHOWN
 echo "c example: shows what it should"
