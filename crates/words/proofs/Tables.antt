@@ -7,7 +7,7 @@ use native.Mathlib.Nat.{not-suc-le-zero}
 use native.Mathlib.Numerals.{add-one}
 use native.Mathlib.Omega.{arith}
 use lib.ListN.{length, getD, take, drop, set, length-append, length-take, length-drop, List·getD-append, drop-of-length-le, take-append-drop}
-use lib.Seq.{drop-cons, set-at, getD-at, getD-take, getD-drop, getD-append-add, length-take-le, drop-drop}
+use lib.Seq.{drop-cons, set-at, getD-at, getD-take, getD-drop, getD-append-add, length-take-le, set-getD, drop-set-lt}
 use Rattle.words.specs.Tables.{Column, tabulate, written, window, placed}
 use Rattle.words.specs.Refusals.{longest}
 use Rattle.words.proofs.Tests.{last-or}
@@ -51,6 +51,11 @@ module _ (f : ℕ → ℕ) where
   written-stays n t r h =
       let e : length (tabulate f n) + (r - n) ≡ r = omega (arith, length-tabulate n) in
       rw e at (getD-append-add (tabulate f n) (drop n t) (r - n) 0) ∙ getD-drop n t (r - n) 0 ∙ ap (λ (k : ℕ). getD t k 0) (omega arith)
+
+  -- what a row held that is written makes no difference
+  pub written-over : (n : ℕ) (t : List ℕ) (r v : ℕ) → r < n → written f n (set t r v) ≡ written f n t
+  unfolding written
+  written-over n t r v h = ap (λ (y : List ℕ). tabulate f n ++ y) (drop-set-lt n t r v h)
 
   -- a table of just n rows, whatever it held
   pub written-all : (n : ℕ) (t : List ℕ) → length t ≡ n → written f n t ≡ tabulate f n
@@ -126,6 +131,14 @@ pub record Rows (f : Column) (x t₀ t : List ℕ) (r : ℕ) : Type 0 where
 
 pub rows-none : {f : Column} {x t : List ℕ} → length x ≤ length t → Rows f x t t 0
 rows-none {f} {x} {t} h = record { within = omega arith; room = h; made = sym (written-none (f x) t) }
+
+-- the first row is there already
+pub rows-first : {f : Column} {x t : List ℕ} → length x ≤ length t → 0 < length x → getD t 0 0 ≡ f x 0 → Rows f x t t 1
+rows-first {f} {x} {t} h s e = record {
+  within = s;
+  room = h;
+  made = sym (set-getD t 0 0) ∙ ap (set t 0) e ∙ ap (λ (y : List ℕ). set y 0 (f x 0)) (sym (written-none (f x) t)) ∙ written-more (f x) 0 t (omega arith);
+}
 
 module _ {f : Column} {x t₀ t : List ℕ} {r : ℕ} (w : Rows f x t₀ t r) where
   pub rows-length : length t ≡ length t₀
