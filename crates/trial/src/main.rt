@@ -1,4 +1,5 @@
 // Compares every call with the second way to its answer. One line for each kind of comparison, and the differences of all kinds in the last.
+use trial_base::line::say;
 use trial_base::logs::CYCLE;
 use trial_base::logs::DEFECTS;
 use trial_base::logs::FIBONACCI;
@@ -7,10 +8,6 @@ use trial_base::logs::RANDOM;
 use trial_base::logs::RUNS;
 use trial_runs::long;
 use trial_runs::small;
-
-fn say(text: &[u8]) {
-    io::write_all(1, text);
-}
 
 // At the greatest number the count stays: it must not come round to 0.
 fn plus(a: u64, b: u64) -> u64 {

@@ -1,15 +1,11 @@
 // Holds each call that only answers, on one log, to the second way.
 use second::Form;
-use trial_base::tally::BEST_PATTERN;
-use trial_base::tally::BREAKDOWN;
-use trial_base::tally::COVER_TEST;
-use trial_base::tally::NORMAL;
+use trial_base::calls;
 use trial_base::tally::Tally;
-use trial_base::tally::WEIGHED;
 use trial_base::way::Way;
-use trial_base::way::wide;
 use words::CoverTest;
 use words::Part;
+use words::wide;
 
 // The place asked for; 0 where the call is refused, at which the second way gives zeros.
 fn accepted(number: u8, i: usize) -> usize {
@@ -67,10 +63,10 @@ fn limit(x: &[u8], i: usize) -> bool {
 
 fn at_place(t: Tally, w: Way, x: &[u8], i: usize) -> Tally {
     if w.picks(i, x.len()) {
-        let seen = t.see(NORMAL, x, i, normal(x, i));
-        return seen.see(WEIGHED, x, i, weighed(x, i));
+        let seen = t.see(calls::NORMAL, x, i, normal(x, i));
+        return seen.see(calls::WEIGHED, x, i, weighed(x, i));
     }
-    t.see(WEIGHED, x, i, limit(x, i))
+    t.see(calls::WEIGHED, x, i, limit(x, i))
 }
 
 // Normal forms and weighed lists at every place, those that are refused too.
@@ -113,7 +109,7 @@ fn covers_by_second(x: &[u8], i: usize, q: usize) -> u16 {
 fn cover_test(t: Tally, w: Way, x: &[u8], i: usize, q: usize) -> Tally {
     if w.picks(q, i) {
         return t.see(
-            COVER_TEST,
+            calls::COVER_TEST,
             x,
             i,
             covers(x, i, q) == covers_by_second(x, i, q),
@@ -212,6 +208,6 @@ fn best_pattern(x: &[u8]) -> bool {
 pub fn all(t: Tally, w: Way, x: &[u8]) -> Tally {
     let t1 = at_places(t, w, x);
     let t2 = cover_tests(t1, w, x);
-    let t3 = t2.see(BREAKDOWN, x, 0, breakdown(x));
-    t3.see(BEST_PATTERN, x, 0, best_pattern(x))
+    let t3 = t2.see(calls::BREAKDOWN, x, 0, breakdown(x));
+    t3.see(calls::BEST_PATTERN, x, 0, best_pattern(x))
 }

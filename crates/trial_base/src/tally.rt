@@ -1,33 +1,7 @@
 // How much of one kind was compared, and how much differed. The kind's name is printed before, so that the first difference stands in its line.
-
-// The calls. A table's row is named by its column, in a window by the column and 10.
-pub const BORDER: u8 = 1;
-
-pub const PREFIX: u8 = 2;
-
-pub const COVER: u8 = 3;
-
-pub const BEST: u8 = 4;
-
-pub const COUNT: u8 = 5;
-
-pub const ENHANCED: u8 = 6;
-
-pub const WINDOW: u8 = 10;
-
-pub const NORMAL: u8 = 20;
-
-pub const BREAKDOWN: u8 = 21;
-
-pub const COVER_TEST: u8 = 22;
-
-pub const COVER_LIST: u8 = 23;
-
-pub const WEIGHED: u8 = 24;
-
-pub const BEST_PATTERN: u8 = 25;
-
-pub const PLANT_FILE: u8 = 26;
+use crate::calls;
+use crate::line::number;
+use crate::line::say;
 
 pub struct Tally {
     pub tried: u64,
@@ -40,53 +14,8 @@ fn one_more(n: u64) -> u64 {
     if n < u64::MAX { n + 1 } else { n }
 }
 
-fn say(text: &[u8]) {
-    io::write_all(1, text);
-}
-
-fn number(n: u64) {
-    say(b" ");
-    io::print_decimal(1, n);
-}
-
 fn byte(b: u8) -> u64 {
     b as u64
-}
-
-fn column(call: u8) {
-    match call {
-        BORDER => say(b" border_table"),
-        PREFIX => say(b" prefix_table"),
-        COVER => say(b" cover_table"),
-        BEST => say(b" enhanced_table, best"),
-        COUNT => say(b" enhanced_table, count"),
-        _ => say(b" enhanced_table"),
-    }
-}
-
-fn answer(call: u8) {
-    match call {
-        NORMAL => say(b" normal_form"),
-        BREAKDOWN => say(b" breakdown"),
-        COVER_TEST => say(b" cover_test"),
-        COVER_LIST => say(b" cover_list"),
-        WEIGHED => say(b" weighed_list"),
-        BEST_PATTERN => say(b" best_pattern"),
-        _ => say(b" file"),
-    }
-}
-
-fn name(call: u8) {
-    if NORMAL <= call {
-        answer(call);
-        return;
-    }
-    if WINDOW <= call {
-        say(b" window:");
-        column(call - WINDOW);
-        return;
-    }
-    column(call);
 }
 
 // The first twelve readings: the whole of a small log.
@@ -103,7 +32,7 @@ fn readings(x: &[u8]) {
 
 fn tell(call: u8, x: &[u8], row: usize) {
     say(b" FIRST DIFFERENT:");
-    name(call);
+    calls::name(call);
     say(b", row");
     number(row as u64);
     say(b", length");

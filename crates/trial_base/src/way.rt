@@ -1,6 +1,4 @@
 // How a call is tried: what stands in a lent table before it, and at which rows its answers are held to the second way.
-ghost use Prim.Native.Nat.{_<_};
-
 pub struct Way {
     pub was: u16,
     pub first: usize,
@@ -32,14 +30,8 @@ impl Way {
     // What stands before a call in the row after r others: numbers that rise by one.
     pub fn before(self, r: usize) -> u16 {
         let was = self.was;
-        ((wide(was) + r % 4096) % 65536) as u16
+        ((words::wide(was) + r % 4096) % 65536) as u16
     }
-}
-
-pub fn wide(n: u16) -> usize
-    ensures { λ r. ⌜ r < 65536 ⌝ }
-{
-    n as usize
 }
 
 pub fn fill(w: Way, t: &mut [u16]) {

@@ -25,13 +25,14 @@ fn two_more(n: usize) -> usize {
     std::num::wrapping_add_usize(n, 2)
 }
 
-// Every call but windows, with tables that are too short, that fit and that are longer.
+// Every call but windows, with tables that fit, that are longer and that are too short.
 pub fn every_call(t: Tally, w: Way, x: &[u8]) -> Tally {
     let n = x.len();
-    let t1 = trial_tables::with_rooms(t.more(), w, x, n, n);
-    let t2 = trial_tables::with_rooms(t1, w, x, one_less(n), two_more(n));
-    let t3 = trial_tables::with_rooms(t2, w, x, two_more(n), one_less(n));
-    trial_answers::all(t3, w, x)
+    let t1 = trial_tables::with_rooms(t.more(), w, x, n, two_more(n));
+    let t2 = trial_tables::with_rooms(t1, w, x, two_more(n), n);
+    let t3 = trial_tables::with_rooms(t2, w, x, one_less(n), n);
+    let t4 = trial_tables::enhanced(t3, w, x, n, one_less(n));
+    trial_answers::all(t4, w, x)
 }
 
 // The window of m after a, and two whose sum comes round to a where it is made in a machine word.

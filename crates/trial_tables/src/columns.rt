@@ -4,11 +4,7 @@ use crate::rows::least;
 use crate::rows::part;
 use crate::rows::total;
 use crate::rows::written;
-use trial_base::tally::BEST;
-use trial_base::tally::BORDER;
-use trial_base::tally::COUNT;
-use trial_base::tally::ENHANCED;
-use trial_base::tally::PREFIX;
+use trial_base::calls;
 use trial_base::tally::Tally;
 use trial_base::way::Way;
 use trial_base::way::fill;
@@ -16,8 +12,8 @@ use words::Weighing;
 
 fn write(column: u8, x: &[u8], table: &mut [u16]) -> u8 {
     match column {
-        BORDER => finder::border_table(x, table).number,
-        PREFIX => finder::prefix_table(x, table).number,
+        calls::BORDER => finder::border_table(x, table).number,
+        calls::PREFIX => finder::prefix_table(x, table).number,
         _ => finder::cover_table(x, table).number,
     }
 }
@@ -51,10 +47,15 @@ fn compare_enhanced(
 ) -> Tally {
     let number = second_no::table(x.len(), least(best.len(), count.len()));
     let s = written(number, 0, x.len());
-    let t1 = t.see(ENHANCED, x, 0, got.number == number);
-    let t2 = t1.see(ENHANCED, x, 0, got.total as usize == total(w, part(x, s)));
-    let t3 = compare(t2, w, BEST, x, s, best);
-    compare(t3, w, COUNT, x, s, count)
+    let t1 = t.see(calls::ENHANCED, x, 0, got.number == number);
+    let t2 = t1.see(
+        calls::ENHANCED,
+        x,
+        0,
+        got.total as usize == total(w, part(x, s)),
+    );
+    let t3 = compare(t2, w, calls::BEST, x, s, best);
+    compare(t3, w, calls::COUNT, x, s, count)
 }
 
 pub fn enhanced(t: Tally, w: Way, x: &[u8], best: &mut [u16], count: &mut [u16]) -> Tally {

@@ -1,13 +1,13 @@
 // The list of covers.
 use crate::rows::part;
 use crate::rows::written;
-use trial_base::tally::COVER_LIST;
+use trial_base::calls;
 use trial_base::tally::Tally;
 use trial_base::way::Way;
 use trial_base::way::fill;
-use trial_base::way::wide;
 use words::CoverTest;
 use words::Listed;
+use words::wide;
 
 fn accepts(x: &[u8], q: usize) -> bool {
     match finder::cover_test(x, x.len(), q) {
@@ -52,7 +52,7 @@ fn compare_rows(t: Tally, w: Way, x: &[u8], of: &[u8], used: usize, table: &[u16
     let mut q = 0;
     for r in 0..table.len() {
         q = cover_after(w, of, q);
-        seen = seen.see(COVER_LIST, x, r + 1, listed(w, q, used, r, table[r]));
+        seen = seen.see(calls::COVER_LIST, x, r + 1, listed(w, q, used, r, table[r]));
     }
     seen
 }
@@ -66,8 +66,8 @@ fn compare_answer(t: Tally, w: Way, x: &[u8], got: Listed, table: &[u16]) -> Tal
     let number = second_no::table(x.len(), table.len());
     let of = part(x, written(number, 0, x.len()));
     let used = wide(got.used);
-    let t1 = t.see(COVER_LIST, x, 0, got.number == number);
-    let t2 = t1.see(COVER_LIST, x, 0, used <= of.len());
+    let t1 = t.see(calls::COVER_LIST, x, 0, got.number == number);
+    let t2 = t1.see(calls::COVER_LIST, x, 0, used <= of.len());
     compare_rows(t2, w, x, of, used, table)
 }
 

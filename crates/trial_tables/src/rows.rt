@@ -1,11 +1,8 @@
 // The rows of a lent table after a call: those written hold what the second way gives, all others what stood there before.
-use trial_base::tally::BEST;
-use trial_base::tally::BORDER;
-use trial_base::tally::COVER;
-use trial_base::tally::PREFIX;
+use trial_base::calls;
 use trial_base::tally::Tally;
 use trial_base::way::Way;
-use trial_base::way::wide;
+use words::wide;
 
 // The rows after the first `from`, up to `to`: those that a call writes. They belong to the same readings of the log.
 pub struct Span {
@@ -37,10 +34,10 @@ pub fn part(x: &[u8], s: Span) -> &[u8] {
 
 fn second_way(call: u8, x: &[u8], i: usize) -> usize {
     match call % 10 {
-        BORDER => second::border(x, i),
-        PREFIX => second::prefix(x, i),
-        COVER => second::cover(x, i),
-        BEST => second::best(x, i),
+        calls::BORDER => second::border(x, i),
+        calls::PREFIX => second::prefix(x, i),
+        calls::COVER => second::cover(x, i),
+        calls::BEST => second::best(x, i),
         _ => second::count(x, i),
     }
 }

@@ -1,12 +1,7 @@
 // Holds windows of one log to the second way.
 ghost use Prim.Native.Nat.{_≤_};
-use trial_base::tally::BEST;
-use trial_base::tally::BORDER;
-use trial_base::tally::COUNT;
-use trial_base::tally::COVER;
-use trial_base::tally::PREFIX;
+use trial_base::calls;
 use trial_base::tally::Tally;
-use trial_base::tally::WINDOW;
 use trial_base::way::Way;
 use trial_base::way::fill;
 use trial_tables::rows::Span;
@@ -49,11 +44,11 @@ fn compare_all(
     best: &[u16],
     count: &[u16],
 ) -> Tally {
-    let t1 = compare(t, w, WINDOW + BORDER, x, s, border);
-    let t2 = compare(t1, w, WINDOW + PREFIX, x, s, prefix);
-    let t3 = compare(t2, w, WINDOW + COVER, x, s, cover);
-    let t4 = compare(t3, w, WINDOW + BEST, x, s, best);
-    compare(t4, w, WINDOW + COUNT, x, s, count)
+    let t1 = compare(t, w, calls::WINDOW + calls::BORDER, x, s, border);
+    let t2 = compare(t1, w, calls::WINDOW + calls::PREFIX, x, s, prefix);
+    let t3 = compare(t2, w, calls::WINDOW + calls::COVER, x, s, cover);
+    let t4 = compare(t3, w, calls::WINDOW + calls::BEST, x, s, best);
+    compare(t4, w, calls::WINDOW + calls::COUNT, x, s, count)
 }
 
 fn compare_answer(
@@ -78,8 +73,13 @@ fn compare_answer(
     );
     let number = second_no::window(x.len(), a, m, room);
     let s = written(number, a, std::num::wrapping_add_usize(a, m));
-    let t1 = t.see(WINDOW, x, 0, got.number == number);
-    let t2 = t1.see(WINDOW, x, 0, got.total as usize == total(w, part(x, s)));
+    let t1 = t.see(calls::WINDOW, x, 0, got.number == number);
+    let t2 = t1.see(
+        calls::WINDOW,
+        x,
+        0,
+        got.total as usize == total(w, part(x, s)),
+    );
     compare_all(t2, w, x, s, border, prefix, cover, best, count)
 }
 
