@@ -31,7 +31,7 @@ grow-spec =
     (λ c κs. search needs)
     (λ c. search needs)
     (λ c. search grow-below)
-    (λ c κs. (search rows-filled, search needs, search grow-later, search needs, search needs))
+    (λ c κs. (search rows-filled, search needs, search (needs, grow-later), search needs, search needs))
     (λ c κs. search (needs, grow-border))
     (λ c. search grow-fits)
     (λ c. search needs)
