@@ -30,7 +30,7 @@ grow-spec =
     (λ c. search needs)
     (λ c κs. search needs)
     (λ c. search needs)
-    (λ c. search grow-below)
+    (λ c. search (needs, grow-below))
     (λ c κs. (search rows-filled, search needs, search (needs, grow-later), search needs, search needs))
     (λ c κs. search (needs, grow-border))
     (λ c. search grow-fits)
