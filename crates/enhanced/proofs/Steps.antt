@@ -147,6 +147,3 @@ module _ (x : List ℕ) (j : ℕ) {t : ℕ} (e : t ≡ sum (usedRow x) j) where
 
 pub chain-fits : (x : List ℕ) (j : ℕ) {w : ℕ} → w ≡ heaviestRow x j → j < length x → length x ≤ longest → Fits w16 w
 chain-fits x j e h s = omega (arith, heaviest-lt x (j + 1) (omega arith))
-
-pub held-inside : {x l h : List ℕ} {j : ℕ} → Tallies x l h j → j < length x → j < length h
-held-inside t i = omega (arith, t .holds)

@@ -9,7 +9,7 @@ use Rattle.words.proofs.Tables.{Rows, rows-none, rows-length, rows-inside, rows
 use Rattle.words.proofs.Weighs.{heaviestRow}
 use Rattle.enhanced.specs.Tallies.{Tallies}
 use Rattle.words.specs.Tables.{bestRow, countRow}
-use Rattle.enhanced.proofs.Steps.{usedRow, first-tallies, held-inside, chain-fits, best-fits, count-fits, total-fits, total-none, total-more, total-done}
+use Rattle.enhanced.proofs.Steps.{usedRow, first-tallies, chain-fits, best-fits, count-fits, total-fits, total-none, total-more, total-done}
 use Rattle.enhanced.proofs.judge.Statement.{statement}
 use Rattle.enhanced.proofs.judge.Tie as tie
 
@@ -38,7 +38,7 @@ judge-spec =
     (λ c. search rows-inside)
     (λ c. search (best-fits, count-fits))
     (λ c. search needs)
-    (λ c. search (rows-inside, held-inside))
+    (λ c. search rows-inside)
     (λ c. search total-fits)
     (λ c. search needs)
     (λ c. search needs)
