@@ -1,0 +1,3 @@
+-- The laws, each file over those above it.
+pub mod Steps
+pub mod Readings
