@@ -1,3 +1,5 @@
 -- The laws, each file over those above it.
 pub mod Steps
 pub mod Readings
+pub mod Endings
+pub mod Files

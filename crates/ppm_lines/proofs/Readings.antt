@@ -36,34 +36,41 @@ unfolding gives stopped ahead lineGives saysAfter says given from
 blank-ahead s n file [] = refl
 blank-ahead s n file (x ∷ xs) = refl
 
+pub no-front : {A : Type 0} → true ≡ false → A
+no-front e = absurd (let z : _≡_ {A = ℕ} 0 1 = cc in omega arith)
+
 -- a line ends
 module _ (s : State) (file : List ℕ) (w : Said) (r : State) (m : Room (s .readings) file) where
   pub nothing-said : w ≡ said.Nothing → r ≡ lineAfter s (s .readings) → EndsLine s file w r file
   unfolding lineGives given
-  nothing-said e q = record { room = rw q m; meaning = λ xs. rw (q, e) (blank-ahead s (s .readings) file xs) }
+  nothing-said e q = record { room = rw q m; meaning = λ xs. rw (q, e) (blank-ahead s (s .readings) file xs); front = λ h. rw q }
 
   pub no-number-said : w ≡ said.NoNumber → r ≡ stopAt s fault.NoNumber → EndsLine s file w r file
   unfolding lineGives given gives stopped
-  no-number-said e q = record { room = rw q m; meaning = λ xs. rw (q, e) }
+  no-number-said e q = record { room = rw q m; meaning = λ xs. rw (q, e); front = λ h. no-front (rw q at h) }
 
   pub long-number-said : w ≡ said.LongNumber → r ≡ stopAt s fault.LongNumber → EndsLine s file w r file
   unfolding lineGives given gives stopped
-  long-number-said e q = record { room = rw q m; meaning = λ xs. rw (q, e) }
+  long-number-said e q = record { room = rw q m; meaning = λ xs. rw (q, e); front = λ h. no-front (rw q at h) }
 
 module _ (s : State) (file : List ℕ) (ppm : ℕ) (r : State) (m : Room (s .readings) file) where
   pub reading-said : (v : ℕ) → s .readings < longest → v ≡ symbolOf ppm → r ≡ lineAfter s (s .readings + 1) → EndsLine s file (said.Reading ppm) r (set file (3 + s .readings) v)
   unfolding lineGives given
   reading-said v h e q = record {
-      room = rw q record { few = omega arith; long = length-set file (3 + s .readings) v ∙ m .long };
-      meaning = λ xs.
-          rw (q, length-heard (s .readings) file (m .long), lt-ltb (min (s .readings) longest) longest (omega arith))
-          (blank-ahead s (s .readings + 1) (set file (3 + s .readings) v) xs ∙ rw (heard-more (s .readings) file (m .long) v h, e)) }
+    room = rw q record { few = omega arith; long = length-set file (3 + s .readings) v ∙ m .long };
+    meaning = λ xs.
+        rw (q, length-heard (s .readings) file (m .long), lt-ltb (min (s .readings) longest) longest (omega arith))
+        (blank-ahead s (s .readings + 1) (set file (3 + s .readings) v) xs ∙ rw (heard-more (s .readings) file (m .long) v h, e));
+    front = λ k. rw q;
+  }
 
   pub too-many-said : longest ≤ s .readings → r ≡ stopAt s fault.Many → EndsLine s file (said.Reading ppm) r file
   unfolding lineGives given gives stopped
   too-many-said h q = record {
-      room = rw q m;
-      meaning = λ xs. rw (q, length-heard (s .readings) file (m .long), le-ltb (min (s .readings) longest) longest (omega arith)) }
+    room = rw q m;
+    meaning = λ xs. rw (q, length-heard (s .readings) file (m .long), le-ltb (min (s .readings) longest) longest (omega arith));
+    front = λ k. no-front (rw q at k);
+  }
 
 pub so-said : (s : State) (file : List ℕ) (v w : Said) (r : State) (file′ : List ℕ) → EndsLine s file v r file′ → w ≡ v → EndsLine s file w r file′
 so-said s file v w r file′ d e = rw e d
@@ -119,8 +126,9 @@ none-taken piece s file m = record { room = m; meaning = λ t. refl }
 pub more-taken : (piece : List ℕ) (i : ℕ) (s : State) (file : List ℕ) (u : State) (file₁ : List ℕ) (r : State) (file₂ : List ℕ) → i < length piece
     → Takes (take i piece) s file u file₁ → Takes (getD piece i 0 ∷ []) u file₁ r file₂ → Takes (take (i + 1) piece) s file r file₂
 more-taken piece i s file u file₁ r file₂ h d e = record {
-    room = e .room;
-    meaning = λ t. e .meaning t ∙ d .meaning (getD piece i 0 ∷ t) ∙ rw (add-one, take-suc piece i 0, append-assoc) }
+  room = e .room;
+  meaning = λ t. e .meaning t ∙ d .meaning (getD piece i 0 ∷ t) ∙ rw (add-one, take-suc piece i 0, append-assoc);
+}
 
 pub all-taken : (piece : List ℕ) (i : ℕ) (s : State) (file : List ℕ) (r : State) (file₁ : List ℕ) → length piece ≤ i
     → Takes (take i piece) s file r file₁ → Takes piece s file r file₁

@@ -4,8 +4,10 @@ use mathlib.Core.Path.{_≡_}
 use mathlib.Core.List.{List, [], _∷_, _++_}
 use Prim.Native.Nat.{ℕ, _+_, _-_, _/_, _%_, _^_, _≤_, min}
 use lib.Dec.{eqb, ltb}
-use lib.ListN.{length, take, drop}
+use lib.ListN.{length, take, drop, set}
 use Rattle.words.specs.Refusals.{longest}
+use Rattle.words.specs.PlantFile.{fileNo}
+use Rattle.io.specs.Counts.{Counts}
 use Rattle.ppm_lines.specs.declared.line.Line.{Line}
 use Rattle.ppm_lines.specs.declared.line.Line.the-variants.{Blank}
 use Rattle.ppm_lines.specs.declared.line.Said.{Said}
@@ -102,7 +104,9 @@ gives s file xs = stopped (s .fault) (s .number) (ahead s file xs)
 unfoldable pub ended : State → List ℕ → Outcome
 ended s file = stopped (s .fault) (s .number) (symbols (heard (s .readings) file))
 
--- The states that the code makes of a state s
+-- The states and the file that the code makes
+abbrev pub startState : State
+startState = record { line = Blank; number = 1; readings = 0; fault = fault.Nothing }
 
 abbrev pub stopAt : State → Fault → State
 stopAt s f = record { line = s .line; number = s .number; readings = s .readings; fault = f }
@@ -110,14 +114,43 @@ stopAt s f = record { line = s .line; number = s .number; readings = s .readings
 abbrev pub lineAfter : State → ℕ → State
 lineAfter s n = record { line = Blank; number = nextNumber (s .number); readings = n; fault = fault.Nothing }
 
+abbrev pub headed : ℕ → List ℕ → List ℕ
+headed n file = set (set (set file 0 1) 1 (n / 256)) 2 (n % 256)
+
 -- What a piece of code does to a state s and its file, which become r and file′
 
--- it ends the state's line, which says w
+-- it ends the state's line, which says w; where nothing is wrong a new line begins
 pub record EndsLine (s : State) (file : List ℕ) (w : Said) (r : State) (file′ : List ℕ) : Type 0 where
   pub room : Room (r .readings) file′
   pub meaning : (xs : List (List ℕ)) → gives r file′ xs ≡ lineGives s file w xs
+  pub front : isFault (r .fault) ≡ false → r .line ≡ Blank
 
 -- it takes this piece of the text
 pub record Takes (piece : List ℕ) (s : State) (file : List ℕ) (r : State) (file′ : List ℕ) : Type 0 where
   pub room : Room (r .readings) file′
   pub meaning : (t : List ℕ) → gives r file′ (lines t) ≡ gives s file (lines (piece ++ t))
+
+-- it ends the text; where nothing is wrong the file stands, header and all
+pub record EndsText (s : State) (file : List ℕ) (r : State) (file′ : List ℕ) : Type 0 where
+  pub room : Room (r .readings) file′
+  pub meaning : ended r file′ ≡ gives s file []
+  pub made : isFault (r .fault) ≡ false → take (3 + r .readings) file′ ≡ fileOf (heard (r .readings) file′)
+
+-- The state and the file after some text, whatever pieces it came in
+pub record After (s : State) (file : List ℕ) : Type 0 where
+  pub text : List ℕ
+  pub room : Room (s .readings) file
+  pub meaning : (t : List ℕ) → gives s file (lines t) ≡ outcome (text ++ t)
+
+-- The file of some text, which the plant's reader accepts
+pub record Made (file : List ℕ) : Type 0 where
+  pub text : List ℕ
+  pub readings : List ℕ
+  pub meaning : outcome text ≡ symbols readings
+  pub is : file ≡ fileOf readings
+  pub accepted : fileNo file ≡ 0
+
+-- The first n bytes are the file of some text; no byte is where n is 0
+pub record Holds (n : ℕ) (file : List ℕ) : Type 0 where
+  pub within : Counts n file
+  pub made : (n ≡ 0 → ⊥) → Made (take n file)
