@@ -1,4 +1,4 @@
-use Rattle.ppm_lines.proofs.Files.{nothing-held, file-held}
+use Rattle.ppm_text.proofs.Files.{nothing-held, file-held}
 use native.Mathlib.Omega.{arith}
 use borrow.Author.Needs.{needs}
 use Rattle.ppm_lines.proofs.finish.Statement.{statement}
@@ -6,9 +6,9 @@ use Rattle.ppm_lines.proofs.finish.Tie as tie
 use Rattle.ppm_lines.proofs.finish.Reads as reads
 use Rattle.ppm_lines.proofs.finish.Lts as lts
 use Rattle.io.proofs.write_all.Reads as write-all-reads
-use Rattle.ppm_lines.proofs.end_text.Reads as end-text-reads
+use Rattle.ppm_text.proofs.end_text.Reads as end-text-reads
 use Rattle.ppm_lines.proofs.is_end.Reads as is-end-reads
-use Rattle.ppm_lines.proofs.is_fault.Reads as is-fault-reads
+use Rattle.ppm_text.proofs.is_fault.Reads as is-fault-reads
 use Rattle.ppm_lines.proofs.say_fault.Reads as say-fault-reads
 
 -- src/lib.rt:271:9

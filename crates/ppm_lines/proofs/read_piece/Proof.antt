@@ -1,4 +1,4 @@
-use Rattle.ppm_lines.proofs.Files.{one-more-piece}
+use Rattle.ppm_text.proofs.Files.{one-more-piece}
 use native.Mathlib.Omega.{arith}
 use borrow.Author.Needs.{needs}
 use Rattle.ppm_lines.proofs.read_piece.Statement.{statement}
@@ -8,7 +8,7 @@ use Rattle.ppm_lines.proofs.read_piece.Lts as lts
 use Rattle.io.proofs.buffer.Reads as buffer-reads
 use Rattle.io.proofs.count.Reads as count-reads
 use Rattle.libc.proofs.read.Reads as read-reads
-use Rattle.ppm_lines.proofs.feed.Reads as feed-reads
+use Rattle.ppm_text.proofs.feed.Reads as feed-reads
 
 -- src/lib.rt:206:19
 buffer-requires : tie.Need-buffer-requires

@@ -1,5 +1,5 @@
-use Rattle.ppm_lines.specs.Texts.{After}
-use Rattle.ppm_lines.proofs.Files.{at-start}
+use Rattle.ppm_text.specs.Texts.{After}
+use Rattle.ppm_text.proofs.Files.{at-start}
 use native.Mathlib.Omega.{arith}
 use borrow.Author.Needs.{needs}
 use Rattle.ppm_lines.proofs.read_text.Statement.{statement}
@@ -8,7 +8,7 @@ use Rattle.ppm_lines.proofs.read_text.Reads as reads
 use Rattle.ppm_lines.proofs.read_text.Lts as lts
 use Rattle.ppm_lines.proofs.is_more.Reads as is-more-reads
 use Rattle.ppm_lines.proofs.read_piece.Reads as read-piece-reads
-use Rattle.ppm_lines.proofs.start.Reads as start-reads
+use Rattle.ppm_text.proofs.start.Reads as start-reads
 
 abbrev Inv-loop : tie.InvT-loop
 Inv-loop from file₀ t₀ turns₀ file t turns = After (t .state) file

@@ -1,5 +1,0 @@
--- The laws, each file over those above it.
-pub mod Steps
-pub mod Readings
-pub mod Endings
-pub mod Files
