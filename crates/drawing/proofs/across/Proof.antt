@@ -1,0 +1,29 @@
+use native.Mathlib.Omega.{arith}
+use borrow.Author.Needs.{needs}
+use Rattle.drawing.proofs.across.Statement.{statement}
+use Rattle.drawing.proofs.across.Tie as tie
+use Rattle.drawing.proofs.across.Reads as reads
+use Rattle.drawing.proofs.across.Lts as lts
+
+-- src/lib.rt:35:9
+returns : tie.Need-returns
+returns c = search needs
+
+-- src/lib.rt:38:9
+returns-2 : tie.Need-returns-2
+returns-2 c = search needs
+
+-- src/lib.rt:40:6
+mul-result : tie.Need-mul-result
+mul-result c = search needs
+
+-- src/lib.rt:40:6
+div-result : tie.Need-div-result
+div-result c = search needs
+
+-- src/lib.rt:31:1
+returns-3 : tie.Need-returns-3
+returns-3 c = search needs
+
+pub across-spec : {M : Type 1} → statement M
+across-spec = tie.close (tie.spec returns returns-2 mul-result div-result returns-3)

@@ -1,0 +1,59 @@
+use native.Mathlib.Omega.{arith}
+use borrow.Author.Needs.{needs}
+use Rattle.drawing.proofs.end_of_run.Statement.{statement}
+use Rattle.drawing.proofs.end_of_run.Tie as tie
+use Rattle.drawing.proofs.end_of_run.Reads as reads
+use Rattle.drawing.proofs.end_of_run.Lts as lts
+
+abbrev Inv-loop : tie.InvT-loop
+Inv-loop x p v e₀ e = ?
+
+abbrev μ-loop : tie.MeasureT-loop
+μ-loop x p v e₀ e = ?
+
+-- src/lib.rt:67:17
+add-e : tie.Need-add-e Inv-loop μ-loop
+add-e c = search needs
+
+-- src/lib.rt:68:5
+loop-holds : tie.Need-loop-holds Inv-loop μ-loop
+loop-holds c = search needs
+
+-- src/lib.rt:69:12
+shared-slice-read-if1 : tie.Need-shared-slice-read-if1 Inv-loop μ-loop
+shared-slice-read-if1 c = search needs
+
+-- src/lib.rt:70:13
+returns : tie.Need-returns Inv-loop μ-loop
+returns c = search needs
+
+-- src/lib.rt:72:9
+add-e-2 : tie.Need-add-e-2 Inv-loop μ-loop
+add-e-2 c = search needs
+
+-- src/lib.rt:68:5
+loop-less : tie.Need-loop-less Inv-loop μ-loop
+loop-less c = search needs
+
+-- src/lib.rt:68:5
+loop-again : tie.Need-loop-again Inv-loop μ-loop
+loop-again c = search needs
+
+-- src/lib.rt:63:1
+returns-2 : tie.Need-returns-2 Inv-loop μ-loop
+returns-2 c = search needs
+
+pub end-of-run-spec : {M : Type 1} → statement M
+end-of-run-spec =
+    tie.close
+    (tie.spec
+    Inv-loop
+    μ-loop
+    add-e
+    loop-holds
+    shared-slice-read-if1
+    returns
+    add-e-2
+    loop-less
+    loop-again
+    returns-2)

@@ -1,0 +1,42 @@
+use native.Mathlib.Omega.{arith}
+use borrow.Author.Needs.{needs}
+use Rattle.drawing.proofs.steps.Statement.{statement}
+use Rattle.drawing.proofs.steps.Tie as tie
+use Rattle.drawing.proofs.steps.Reads as reads
+use Rattle.drawing.proofs.steps.Lts as lts
+use Rattle.drawing.proofs.step.Reads as step-reads
+
+abbrev Inv-loop : tie.InvT-loop
+Inv-loop to x k₀ k = ?
+
+abbrev μ-loop : tie.MeasureT-loop
+μ-loop to x k₀ k = ?
+
+-- src/lib.rt:103:5
+loop-holds : tie.Need-loop-holds Inv-loop μ-loop
+loop-holds c = search needs
+
+-- src/lib.rt:104:9
+step-requires : tie.Need-step-requires Inv-loop μ-loop
+step-requires c κs = search needs
+
+-- src/lib.rt:105:9
+add-k : tie.Need-add-k Inv-loop μ-loop
+add-k c = search needs
+
+-- src/lib.rt:103:5
+loop-less : tie.Need-loop-less Inv-loop μ-loop
+loop-less c = search needs
+
+-- src/lib.rt:103:5
+loop-again : tie.Need-loop-again Inv-loop μ-loop
+loop-again c = search needs
+
+-- src/lib.rt:101:1
+returns : tie.Need-returns Inv-loop μ-loop
+returns c = search needs
+
+pub steps-spec : {M : Type 1} → statement M
+steps-spec =
+    tie.close
+    (tie.spec Inv-loop μ-loop loop-holds step-requires add-k loop-less loop-again returns)
