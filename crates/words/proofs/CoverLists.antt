@@ -12,7 +12,7 @@ use lib.ListN.{length, getD, length-append}
 use Rattle.words.specs.Search.{rising}
 use Rattle.words.specs.Words.{covers, cover, coverList}
 use Rattle.words.proofs.Tests.{not-passed}
-use Rattle.words.proofs.Search.{rising-hit, rising-skip, rising-entry, rising-place, rising-rises}
+use Rattle.words.proofs.Search.{rising-hit, rising-skip, rising-entry, rising-place, rising-rises, rising-le}
 use Rattle.words.proofs.Covers.{Covers, covers-iff, covers-through, covers-nested, cover-covers, cover-lt, cover-most}
 
 module _ (ag : ℕ → ℕ → Bool) (x : List ℕ) where
@@ -27,6 +27,11 @@ module _ (ag : ℕ → ℕ → Bool) (x : List ℕ) where
   pub coverList-rises : (k : ℕ) → suc k < length (coverList ag x) → getD (coverList ag x) k 0 < getD (coverList ag x) (suc k) 0
   unfolding coverList
   coverList-rises k h = rising-rises (covers ag x (length x)) (suc (length x)) k h
+
+  -- a log has no more covers than readings
+  pub coverList-le : length (coverList ag x) ≤ length x
+  unfolding coverList
+  coverList-le = rising-le (covers ag x (length x)) (not-passed (covers ag x (length x) 0) (λ t. omega (arith, covers-iff ag x (length x) 0 .0 t .some))) (length x)
 
 -- ---- where readings agree by being equal
 

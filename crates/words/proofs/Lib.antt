@@ -2,6 +2,7 @@
 pub mod Tests
 pub mod Search
 pub mod Tables
+pub mod Listings
 pub mod Occurrences
 pub mod Borders
 pub mod Prefixes
@@ -14,3 +15,8 @@ pub mod Lossless
 pub mod Breakdowns
 pub mod CoverLists
 pub mod FlatLog
+pub mod Meaning
+pub mod Refusals
+pub mod Periods
+pub mod Locality
+pub mod Places

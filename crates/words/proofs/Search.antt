@@ -290,6 +290,14 @@ module _ (p : ℕ → Bool) where
           (λ t. let z : length (rising p n) ≡ suc k = omega (arith, ltb-false (suc k) (length (rising p n)) t) in
           rw (getD-at (rising p n) n [] 0 (suc k) z) (rising-entry n k s .0)))
 
+  -- where 0 fails, no more than there are numbers from 1 on
+  pub rising-le : p 0 ≡ false → (n : ℕ) → length (rising p (suc n)) ≤ n
+  unfolding rising
+  rising-le z zero = rw z (omega arith)
+  rising-le z (suc n) =
+      let ih = rising-le z n in
+      cond-case (λ (l : List ℕ). length l ≤ suc n) (p (suc n)) (λ _. simp length-append (omega arith)) (λ _. omega arith)
+
 -- ---- two tests: equal below n, one within the other, apart at one number alone
 
 module _ (p p′ : ℕ → Bool) where
@@ -339,23 +347,24 @@ howMany-drop p p′ (suc n) k h e e′ same =
 -- ---- the peak: no value is greater, and each one before it is less
 
 module _ (g : ℕ → ℕ) where
-  pub peak-most : (n k : ℕ) → k < n → g k ≤ g (peak g n)
+  -- both at once: the second needs the first
+  peak-is : (n : ℕ) → ((k : ℕ) → k < n → g k ≤ g (peak g n)) × ((k : ℕ) → k < peak g n → g k < g (peak g n))
   unfolding peak
-  peak-most zero k h = absurd (not-suc-le-zero h)
-  peak-most (suc n) k h =
-      let ih = peak-most n in
-      cond-case (λ (r : ℕ). g k ≤ g r) (ltb (g (peak g n)) (g n))
-      (λ t. last-or (λ m. g m ≤ g n) n (le-refl (g n)) (λ m l. omega (arith, ih m l, ltb-true (g (peak g n)) (g n) t)) k h)
-      (λ t. last-or (λ m. g m ≤ g (peak g n)) n (ltb-false _ _ t) ih k h)
+  peak-is zero = (λ k h. absurd (not-suc-le-zero h), λ k h. absurd (not-suc-le-zero h))
+  peak-is (suc n) =
+      let ih = peak-is n in
+      cond-case (λ (r : ℕ). ((k : ℕ) → k < suc n → g k ≤ g r) × ((k : ℕ) → k < r → g k < g r)) (ltb (g (peak g n)) (g n))
+      (λ t. let h = ltb-true (g (peak g n)) (g n) t in (
+        last-or (λ m. g m ≤ g n) n (le-refl (g n)) (λ m l. omega (arith, ih .0 m l)),
+        λ k l. omega (arith, ih .0 k l),
+      ))
+      (λ t. (last-or (λ m. g m ≤ g (peak g n)) n (ltb-false _ _ t) (ih .0), ih .1))
+
+  pub peak-most : (n k : ℕ) → k < n → g k ≤ g (peak g n)
+  peak-most n = peak-is n .0
 
   pub peak-least : (n k : ℕ) → k < peak g n → g k < g (peak g n)
-  unfolding peak
-  peak-least zero k h = absurd (not-suc-le-zero h)
-  peak-least (suc n) k h =
-      let ih = peak-least n k in
-      cond-case (λ (r : ℕ). k < r → g k < g r) (ltb (g (peak g n)) (g n))
-      (λ t l. omega (arith, peak-most n k l, ltb-true (g (peak g n)) (g n) t))
-      (λ t l. ih l) h
+  peak-least n = peak-is n .1
 
   peak-le : (n : ℕ) → peak g (suc n) ≤ n
   unfolding peak

@@ -8,8 +8,9 @@ use native.Mathlib.Numerals.{add-one}
 use native.Mathlib.Omega.{arith}
 use lib.ListN.{length, getD, take, drop, set, length-append, length-take, length-drop, List·getD-append, drop-of-length-le, take-append-drop}
 use lib.Seq.{drop-cons, set-at, getD-at, getD-take, getD-drop, getD-append-add, length-take-le, drop-drop}
-use Rattle.words.specs.Tables.{tabulate, written, window, placed}
-use Rattle.words.proofs.Tests.{last-or, le-or-lt}
+use Rattle.words.specs.Tables.{Column, tabulate, written, window, placed}
+use Rattle.words.specs.Refusals.{longest}
+use Rattle.words.proofs.Tests.{last-or}
 
 module _ (f : ℕ → ℕ) where
   pub length-tabulate : (n : ℕ) → length (tabulate f n) ≡ n
@@ -93,31 +94,58 @@ module _ (a m : ℕ) (x : List ℕ) (fits : a + m ≤ length x) where
   unfolding window
   getD-window p h = getD-take m (drop a x) p 0 h ∙ getD-drop a x p 0
 
--- A loop that fills a table: t is t₀ with the first r of n rows written. Its invariant, and what each turn and the end make of it.
-pub record Rows (f : ℕ → ℕ) (n : ℕ) (t₀ t : List ℕ) (r : ℕ) : Type 0 where
-  pub within : r ≤ n
-  pub room : n ≤ length t₀
-  pub made : t ≡ written f r t₀
+-- ---- what a function that trusts its tables is lent
 
-pub rows-none : {f : ℕ → ℕ} {n : ℕ} {t : List ℕ} → n ≤ length t → Rows f n t t 0
-rows-none {f} {t = t} h = record { within = omega arith; room = h; made = sym (written-none f t) }
+-- a log of at most the longest length, and a table with room for its rows
+pub record Room (x t : List ℕ) : Type 0 where
+  pub most : length x ≤ longest
+  pub room : length x ≤ length t
 
-module _ {f : ℕ → ℕ} {n : ℕ} {t₀ t : List ℕ} {r : ℕ} (w : Rows f n t₀ t r) where
+-- t holds the column f of x
+pub record Holds (f : Column) (x t : List ℕ) : Type 0 where
+  pub room : length x ≤ length t
+  pub rows : (r : ℕ) → r < length x → getD t r 0 ≡ f x r
+
+-- t holds the first r rows of it, and there is a row to come
+pub record Filled (f : Column) (x t : List ℕ) (r : ℕ) : Type 0 where
+  pub inside : r < length x
+  pub room : length x ≤ length t
+  pub rows : (j : ℕ) → j < r → getD t j 0 ≡ f x j
+
+pub written-holds : (f : Column) (x s : List ℕ) {t : List ℕ} → length x ≤ length s → t ≡ written (f x) (length x) s → Holds f x t
+written-holds f x s h e = record {
+  room = omega (arith, ap length e, length-written (f x) (length x) s h);
+  rows = λ r l. ap (λ (y : List ℕ). getD y r 0) e ∙ getD-written (f x) (length x) s r l;
+}
+
+-- A loop that fills a table: t is t₀ with the first r rows of the column written. Its invariant, and what each turn and the end make of it.
+pub record Rows (f : Column) (x t₀ t : List ℕ) (r : ℕ) : Type 0 where
+  pub within : r ≤ length x
+  pub room : length x ≤ length t₀
+  pub made : t ≡ written (f x) r t₀
+
+pub rows-none : {f : Column} {x t : List ℕ} → length x ≤ length t → Rows f x t t 0
+rows-none {f} {x} {t} h = record { within = omega arith; room = h; made = sym (written-none (f x) t) }
+
+module _ {f : Column} {x t₀ t : List ℕ} {r : ℕ} (w : Rows f x t₀ t r) where
   pub rows-length : length t ≡ length t₀
-  rows-length = ap length (w .made) ∙ length-written f r t₀ (omega arith)
+  rows-length = ap length (w .made) ∙ length-written (f x) r t₀ (omega (arith, w .room, w .within))
 
-  pub rows-inside : r < n → r < length t
-  rows-inside h = omega (arith, rows-length)
+  pub rows-inside : r < length x → r < length t
+  rows-inside h = omega (arith, rows-length, w .room)
 
-  pub rows-at : (j : ℕ) → j < r → getD t j 0 ≡ f j
-  rows-at j h = ap (λ (y : List ℕ). getD y j 0) (w .made) ∙ getD-written f r t₀ j h
+  rows-at : (j : ℕ) → j < r → getD t j 0 ≡ f x j
+  rows-at j h = ap (λ (y : List ℕ). getD y j 0) (w .made) ∙ getD-written (f x) r t₀ j h
 
-  pub rows-more : {v : ℕ} → r < n → v ≡ f r → Rows f n t₀ (set t r v) (r + 1)
+  pub rows-filled : r < length x → Filled f x t r
+  rows-filled h = record { inside = h; room = omega (arith, rows-length, w .room); rows = rows-at }
+
+  pub rows-more : {v : ℕ} → r < length x → v ≡ f x r → Rows f x t₀ (set t r v) (r + 1)
   rows-more h e = record {
     within = omega arith;
     room = w .room;
-    made = rw (e, w .made) (written-more f r t₀ (omega arith));
+    made = rw (e, w .made) (written-more (f x) r t₀ (omega (arith, w .room)));
   }
 
-  pub rows-done : n ≤ r → t ≡ written f n t₀
-  rows-done h = w .made ∙ ap (λ (k : ℕ). written f k t₀) (omega arith)
+  pub rows-done : length x ≤ r → t ≡ written (f x) (length x) t₀
+  rows-done h = w .made ∙ ap (λ (k : ℕ). written (f x) k t₀) (omega (arith, w .within))

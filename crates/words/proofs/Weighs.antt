@@ -12,6 +12,7 @@ use lib.Dec.{eqb, leb}
 use borrow.Author.Tests.{eqb-true, eq-eqb, leb-true, le-leb}
 use Rattle.words.specs.Search.{greatest, falling}
 use Rattle.words.specs.Words.{isBorder, border, cover, weighs, weighed, used, total, limit}
+use Rattle.words.specs.Tables.{Column}
 use Rattle.words.specs.Refusals.{longest}
 use Rattle.words.specs.Answers.{weighedPlaces}
 use Rattle.words.proofs.Tests.{and3, both-ways, le-or-lt}
@@ -173,3 +174,7 @@ module _ (x : List ℕ) where
   pub total-places : length x ≤ longest → total eqb x ≤ length x * weighedPlaces
   unfolding total
   total-places s = sum-bound (λ r. used eqb x (r + 1)) weighedPlaces (length x) (λ r h. used-places (r + 1) (omega arith) (omega arith))
+
+-- the longest weighed border of each prefix, as a column: the chain of weighed borders runs down it
+abbrev pub heaviestRow : Column
+heaviestRow x r = heaviest x (r + 1)

@@ -48,8 +48,12 @@ tableAfter f x t = columnAfter (tableNo (length x) (length t ∷ [])) f x t
 unfoldable pub enhancedNo : List ℕ → List ℕ → List ℕ → ℕ
 enhancedNo x b c = tableNo (length x) (length b ∷ length c ∷ [])
 
+-- the answer of a call with this number that weighs x
 unfoldable pub weighing : ℕ → List ℕ → Weighing
 weighing code x = record { number = code; total = accepted code (total eqb x) 0 }
+
+unfoldable pub enhancedAnswer : List ℕ → List ℕ → List ℕ → Weighing
+enhancedAnswer x b c = weighing (enhancedNo x b c) x
 
 -- The normal form at i
 unfoldable pub normalAnswer : List ℕ → ℕ → Normal

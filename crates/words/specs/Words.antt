@@ -34,6 +34,10 @@ module _ (ag : ℕ → ℕ → Bool) (x : List ℕ) where
   unfoldable pub border : ℕ → ℕ
   border i = greatest (isBorder i) i
 
+  -- Normal form of x[1..i], with its length
+  unfoldable pub normal : ℕ → Part
+  normal i = let k1 = i - border i in record { len = i; k1 = k1; k2 = i % k1; k = i / k1 }
+
   -- Prefix table at i: among the lengths of what is left from i on
   unfoldable pub prefix : ℕ → ℕ
   prefix i = greatest (λ m. occurs m (i - 1)) (suc (length x - (i - 1)))
@@ -64,10 +68,6 @@ module _ (ag : ℕ → ℕ → Bool) (x : List ℕ) where
 
   unfoldable pub count : ℕ → ℕ
   count i = worth i (best i)
-
-  -- Normal form of x[1..i], with its length
-  unfoldable pub normal : ℕ → Part
-  normal i = let k1 = i - border i in record { len = i; k1 = k1; k2 = i % k1; k = i / k1 }
 
   -- Breakdown: the parts from a length on, at most d of them
   unfoldable pub breakdown : ℕ → ℕ → List Part

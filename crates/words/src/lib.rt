@@ -2,6 +2,14 @@
 // In each answer `number` is 0, or the number of the refusal with zeros in every other field.
 ghost use mathlib.Core.Path.{_≡_};
 
+// The most readings that a log may have, and the places of a weighed list and of a breakdown that follow from it (`longest`, `weighedPlaces` and
+// `breakdownPlaces` of specs/).
+pub const LONGEST: usize = 4096;
+
+pub const WEIGHED_PLACES: usize = 12;
+
+pub const BREAKDOWN_PLACES: usize = 13;
+
 // A call that only writes a table.
 #[repr(C)]
 pub struct Written {
@@ -44,7 +52,7 @@ pub struct Part {
 pub struct Breakdown {
     pub number: u8,
     pub used: u16,
-    pub parts: [Part; 13],
+    pub parts: [Part; BREAKDOWN_PLACES],
 }
 
 // The weighed list of one prefix, longest first.
@@ -53,7 +61,7 @@ pub struct Weighed {
     pub number: u8,
     pub used: u16,
     pub limit: u16,
-    pub lens: [u16; 12],
+    pub lens: [u16; WEIGHED_PLACES],
 }
 
 // The cover test.

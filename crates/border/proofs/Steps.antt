@@ -1,0 +1,38 @@
+-- What each way through the border table's functions comes to, on plain lists and numbers. Assumes nothing.
+use mathlib.Core.Path.{_≡_, ap, _∙_}
+use mathlib.Core.List.{List}
+use Prim.Native.Nat.{ℕ, _+_, _-_, _≤_, _<_}
+use native.Mathlib.Nat.{le-refl}
+use native.Mathlib.Omega.{arith}
+use lib.ListN.{length, getD}
+use lib.Dec.{eqb}
+use mir.Syntax.{w16}
+use mir.Val.{Fits}
+use Rattle.words.specs.Words.{border}
+use Rattle.words.specs.Tables.{borderRow}
+use Rattle.words.specs.Refusals.{longest}
+use Rattle.words.proofs.Tables.{Filled}
+use Rattle.words.proofs.Borders.{Candidate, candidate-first, candidate-next, border-lt}
+
+-- the entry for the prefix of length k stands at row k - 1
+row-of : {x t : List ℕ} {r : ℕ} (k : ℕ) → Filled borderRow x t r → 0 < k → k ≤ r → getD t (k - 1) 0 ≡ border eqb x k
+row-of {x} k f h l = f .rows (k - 1) (omega arith) ∙ ap (border eqb x) (omega arith)
+
+module _ {x t : List ℕ} {r : ℕ} (f : Filled borderRow x t r) where
+  -- the first candidate is the row before
+  pub chain-start : (b : ℕ) → b ≡ getD t (r - 1) 0 → (r ≡ 0 → ⊥) → Candidate x r b
+  chain-start b e nz = rw (e ∙ row-of r f (omega arith) (le-refl r)) (candidate-first x r (omega arith))
+
+  module _ (k b : ℕ) (e : b ≡ getD t (k - 1) 0) (c : Candidate x r k) (nz : k ≡ 0 → ⊥) where
+    is-row : b ≡ border eqb x k
+    is-row = e ∙ row-of k f (omega arith) (omega (arith, c .border .below))
+
+    -- the next candidate is the row that k names, and it is shorter
+    pub chain-next : (getD x k 0 ≡ getD x r 0 → ⊥) → Candidate x r b
+    chain-next ne = rw is-row (candidate-next x r k c ne (omega arith))
+
+    pub chain-falls : b < k
+    chain-falls = rw is-row (border-lt eqb x k (omega arith))
+
+pub row-fits : (x : List ℕ) (r : ℕ) {b : ℕ} → b ≡ borderRow x r → r < length x → length x ≤ longest → Fits w16 b
+row-fits x r e h s = omega (arith, border-lt eqb x (r + 1) (omega arith))

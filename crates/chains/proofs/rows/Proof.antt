@@ -1,0 +1,32 @@
+-- `chains::rows` meets its contract. The loop's invariant is `Rows`, its measure what is left of x. Assumes nothing.
+use Prim.Native.Nat.{_-_}
+use borrow.Author.Needs.{needs}
+use lib.ListN.{length}
+use Rattle.words.proofs.Tables.{Rows, rows-none, rows-length, rows-inside, rows-filled, rows-more, rows-done}
+use Rattle.words.proofs.Weighs.{heaviestRow}
+use Rattle.chains.proofs.Steps.{row-fits}
+use Rattle.chains.proofs.rows.Statement.{statement}
+use Rattle.chains.proofs.rows.Tie as tie
+
+abbrev Inv-loop : tie.InvT-loop
+Inv-loop x border cover v₀ r₀ v r = Rows heaviestRow x v₀ v r
+
+abbrev μ-loop : tie.MeasureT-loop
+μ-loop x border cover v₀ r₀ v r = length x - r
+
+pub rows-spec : {M : Type 1} → statement M
+rows-spec =
+    tie.close
+    (tie.spec
+    Inv-loop
+    μ-loop
+    (λ c. search (needs, rows-none))
+    (λ c κs. (search needs, search needs, search rows-filled))
+    (λ c. search row-fits)
+    (λ c. search needs)
+    (λ c. search rows-inside)
+    (λ c. search needs)
+    (λ c. search needs)
+    (λ c. search (needs, rows-more))
+    (λ c. search rows-length)
+    (λ c. search (rows-done {f = heaviestRow})))

@@ -1,0 +1,15 @@
+-- `finder::best_pattern` meets its contract. Assumes nothing.
+use borrow.Author.Needs.{needs}
+use Rattle.finder.proofs.Answers.{pattern-within, pattern-part}
+use Rattle.finder.proofs.best_pattern.Statement.{statement}
+use Rattle.finder.proofs.best_pattern.Tie as tie
+
+pub best-pattern-spec : {M : Type 1} → statement M
+best-pattern-spec =
+    tie.close
+    (tie.spec
+    (λ c κs. search needs)
+    (λ c. search needs)
+    (λ c. search needs)
+    (λ c. search pattern-within)
+    (λ c. search pattern-part))

@@ -1,0 +1,16 @@
+-- `finder::best_pattern_number` meets its contract. Assumes nothing.
+use borrow.Author.Needs.{needs}
+use Rattle.words.proofs.Refusals.{log-judged}
+use Rattle.finder.proofs.Answers.{number-refused, number-done}
+use Rattle.finder.proofs.best_pattern_number.Statement.{statement}
+use Rattle.finder.proofs.best_pattern_number.Tie as tie
+
+pub best-pattern-number-spec : {M : Type 1} → statement M
+best-pattern-number-spec =
+    tie.close
+    (tie.spec
+    (λ c κs. search needs)
+    (λ c. search number-refused)
+    (λ c κs. log-judged _ (search needs))
+    (λ c κs. search needs)
+    (λ c. search number-done))

@@ -1,0 +1,18 @@
+-- `finder::weighed_list` meets its contract. Assumes nothing.
+use borrow.Author.Needs.{needs}
+use Rattle.words.proofs.Refusals.{prefix-inside}
+use Rattle.finder.proofs.Answers.{weighed-refused, prefix-accepted, weighed-done}
+use Rattle.finder.proofs.weighed_list.Statement.{statement}
+use Rattle.finder.proofs.weighed_list.Tie as tie
+
+pub weighed-list-spec : {M : Type 1} → statement M
+weighed-list-spec =
+    tie.close
+    (tie.spec
+    (λ c κs. search needs)
+    (λ c. search weighed-refused)
+    (λ c. search needs)
+    (λ c. search needs)
+    (λ c. prefix-inside _ _ (search needs) .1)
+    (λ c κs. search prefix-accepted)
+    (λ c. weighed-done _ _ (search needs) (search needs)))

@@ -1,0 +1,21 @@
+-- `judged::weighed` meets its contract. Assumes nothing.
+use borrow.Author.Needs.{needs}
+use Rattle.words.proofs.Weighs.{heaviestRow}
+use Rattle.judged.proofs.Work.{work-holds}
+use Rattle.judged.proofs.weighed.Statement.{statement}
+use Rattle.judged.proofs.weighed.Tie as tie
+
+pub weighed-spec : {M : Type 1} → statement M
+weighed-spec =
+    tie.close
+    (tie.spec
+    (λ c. search needs)
+    (λ c. search needs)
+    (λ c κs. search needs)
+    (λ c. search needs)
+    (λ c. search needs)
+    (λ c. search needs)
+    (λ c κs. search needs)
+    (λ c. search needs)
+    (λ c κs. (search (work-holds heaviestRow), search needs, search needs))
+    (λ c. search needs))

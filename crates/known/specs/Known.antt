@@ -1,0 +1,133 @@
+-- The strings with known results, P1 to P8, as one table: for each string what is asked of it, and the result. Assumes nothing.
+use mathlib.Core.List.{List, [], _∷_, map}
+use Prim.Native.Nat.{ℕ, suc}
+use Prim.Native.String.{String}
+use Prim.Native.Char.{code}
+use lib.Dec.{eqb}
+use lib.ListN.{length, take, replicate}
+use mathlib.Core.Path.{_≡_}
+use Rattle.words.specs.Words as W
+use Rattle.words.specs.Tables as T
+use Rattle.words.specs.Refusals as R
+use Rattle.words.specs.Answers as A
+
+-- What may be asked of a string. `weighed i` and `limit i`: at i. `window a m c`: column c of a lent table of twelve entries 77 after that window;
+-- `windowRefused a m`: the number of a refused window, in tables of twelve entries; `bestRefused`: the number of the best pattern
+pub data Asked : Type 0 where
+  border prefix cover best count normal covers breakdown bestRefused : Asked
+  weighed limit : ℕ → Asked
+  windowRefused : ℕ → ℕ → Asked
+  window : ℕ → ℕ → T.Column → Asked
+
+infix 3 _gives_
+pub data Claim : Type 0 where
+  _gives_ : Asked → List ℕ → Claim
+
+-- a row: its mark, the string, what is claimed
+pub data Row : Type 0 where
+  row : String → String → List Claim → Row
+
+-- a text's characters, as numbers
+unfoldable pub bytes : String → List ℕ
+bytes String.[] = []
+bytes (String._∷_ c s) = code c ∷ bytes s
+
+-- five tables of twelve entries
+abbrev pub rooms : List ℕ
+rooms = replicate 5 12
+
+unfoldable pub answer : List ℕ → Asked → List ℕ
+answer x border = T.tabulate (T.borderRow x) (length x)
+answer x prefix = T.tabulate (T.prefixRow x) (length x)
+answer x cover = T.tabulate (T.coverRow x) (length x)
+answer x best = T.tabulate (T.bestRow x) (length x)
+answer x count = T.tabulate (T.countRow x) (length x)
+answer x normal = let f = A.normalAnswer x (length x) in f .k1 ∷ f .k2 ∷ f .k ∷ []
+answer x covers = W.coverList eqb x
+answer x breakdown = let b = A.breakdownAnswer x in take (b .used) (map (λ p. p .len) (b .parts))
+answer x bestRefused = A.bestPatternNo x ∷ []
+answer x (weighed i) = W.weighed eqb x i
+answer x (limit i) = W.limit i ∷ []
+answer x (windowRefused a m) = R.windowNo (length x) a m rooms ∷ []
+answer x (window a m c) = A.windowAfter (R.windowNo (length x) a m rooms) c x a m (replicate 12 77)
+
+-- what the row asks, answered by the definitions, is what it says
+unfoldable pub asked : Claim → Asked
+asked (t gives r) = t
+
+unfoldable pub said : Claim → List ℕ
+said (t gives r) = r
+
+unfoldable pub Right : Row → Type 0
+Right (row p s cs) = map (λ c. answer (bytes s) (asked c)) cs ≡ map said cs
+
+unfoldable pub rows : List Row
+rows =
+    row "P1" "a"
+    ((border gives 0 ∷ [])
+    ∷ (prefix gives 1 ∷ [])
+    ∷ (cover gives 0 ∷ [])
+    ∷ (best gives 0 ∷ [])
+    ∷ (count gives 0 ∷ [])
+    ∷ (normal gives 1 ∷ 0 ∷ 1 ∷ [])
+    ∷ (covers gives 1 ∷ [])
+    ∷ [])
+    ∷ row "P2" "aa"
+    ((border gives 0 ∷ 1 ∷ [])
+    ∷ (prefix gives 2 ∷ 1 ∷ [])
+    ∷ (best gives 0 ∷ 1 ∷ [])
+    ∷ (count gives 0 ∷ 2 ∷ [])
+    ∷ (normal gives 1 ∷ 0 ∷ 2 ∷ [])
+    ∷ (covers gives 1 ∷ 2 ∷ [])
+    ∷ [])
+    ∷ row "P3" "ab"
+    ((border gives 0 ∷ 0 ∷ [])
+    ∷ (prefix gives 2 ∷ 0 ∷ [])
+    ∷ (best gives 0 ∷ 0 ∷ [])
+    ∷ (normal gives 2 ∷ 0 ∷ 1 ∷ [])
+    ∷ (covers gives 2 ∷ [])
+    ∷ (bestRefused gives 5 ∷ [])
+    ∷ [])
+    ∷ row "P4" "aaaa"
+    ((best gives 0 ∷ 1 ∷ 1 ∷ 1 ∷ [])
+    ∷ (count gives 0 ∷ 2 ∷ 3 ∷ 4 ∷ [])
+    ∷ (normal gives 1 ∷ 0 ∷ 4 ∷ [])
+    ∷ (covers gives 1 ∷ 2 ∷ 3 ∷ 4 ∷ [])
+    ∷ (weighed 4 gives 1 ∷ [])
+    ∷ (limit 4 gives 2 ∷ [])
+    ∷ [])
+    ∷ row "P5" "abaababab"
+    ((border gives 0 ∷ 0 ∷ 1 ∷ 1 ∷ 2 ∷ 3 ∷ 2 ∷ 3 ∷ 2 ∷ [])
+    ∷ (prefix gives 9 ∷ 0 ∷ 1 ∷ 3 ∷ 0 ∷ 3 ∷ 0 ∷ 2 ∷ 0 ∷ [])
+    ∷ (best gives 0 ∷ 0 ∷ 1 ∷ 1 ∷ 2 ∷ 3 ∷ 2 ∷ 3 ∷ 2 ∷ [])
+    ∷ (count gives 0 ∷ 0 ∷ 2 ∷ 3 ∷ 4 ∷ 6 ∷ 6 ∷ 8 ∷ 8 ∷ [])
+    ∷ (normal gives 7 ∷ 2 ∷ 1 ∷ [])
+    ∷ (covers gives 9 ∷ [])
+    ∷ (weighed 9 gives 2 ∷ [])
+    ∷ (limit 9 gives 3 ∷ [])
+    ∷ [])
+    ∷ row "P6" "ababaababa"
+    ((border gives 0 ∷ 0 ∷ 1 ∷ 2 ∷ 3 ∷ 1 ∷ 2 ∷ 3 ∷ 4 ∷ 5 ∷ [])
+    ∷ (prefix gives 10 ∷ 0 ∷ 3 ∷ 0 ∷ 1 ∷ 5 ∷ 0 ∷ 3 ∷ 0 ∷ 1 ∷ [])
+    ∷ (cover gives 0 ∷ 0 ∷ 0 ∷ 2 ∷ 3 ∷ 0 ∷ 0 ∷ 3 ∷ 0 ∷ 5 ∷ [])
+    ∷ (best gives 0 ∷ 0 ∷ 1 ∷ 2 ∷ 3 ∷ 1 ∷ 2 ∷ 3 ∷ 2 ∷ 3 ∷ [])
+    ∷ (count gives 0 ∷ 0 ∷ 2 ∷ 4 ∷ 5 ∷ 4 ∷ 6 ∷ 8 ∷ 8 ∷ 10 ∷ [])
+    ∷ (windowRefused 5 6 gives 3 ∷ [])
+    ∷ (windowRefused 10 0 gives 3 ∷ [])
+    ∷ (window 5 5 T.borderRow gives 77 ∷ 77 ∷ 77 ∷ 77 ∷ 77 ∷ 0 ∷ 0 ∷ 1 ∷ 2 ∷ 3 ∷ 77 ∷ 77 ∷ [])
+    ∷ (window 5 5 T.coverRow gives 77 ∷ 77 ∷ 77 ∷ 77 ∷ 77 ∷ 0 ∷ 0 ∷ 0 ∷ 2 ∷ 3 ∷ 77 ∷ 77 ∷ [])
+    ∷ (window 5 5 T.bestRow gives 77 ∷ 77 ∷ 77 ∷ 77 ∷ 77 ∷ 0 ∷ 0 ∷ 1 ∷ 2 ∷ 3 ∷ 77 ∷ 77 ∷ [])
+    ∷ (window 5 5 T.countRow gives 77 ∷ 77 ∷ 77 ∷ 77 ∷ 77 ∷ 0 ∷ 0 ∷ 2 ∷ 4 ∷ 5 ∷ 77 ∷ 77 ∷ [])
+    ∷ [])
+    ∷ row "P7" "abaababaababa"
+    ((normal gives 5 ∷ 3 ∷ 2 ∷ [])
+    ∷ (covers gives 3 ∷ 8 ∷ 13 ∷ [])
+    ∷ (breakdown gives 13 ∷ 3 ∷ 1 ∷ [])
+    ∷ [])
+    ∷ row "P8" "ababaabaabababaababaabaababa"
+    ((normal gives 15 ∷ 13 ∷ 1 ∷ [])
+    ∷ (covers gives 3 ∷ 28 ∷ [])
+    ∷ (breakdown gives 28 ∷ 13 ∷ 5 ∷ 1 ∷ [])
+    ∷ (weighed 28 gives 3 ∷ 1 ∷ [])
+    ∷ [])
+    ∷ []

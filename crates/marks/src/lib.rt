@@ -1,0 +1,68 @@
+// How a pattern lies in a log, for a picture of it.
+ghost use mathlib.Core.Path.{_≡_};
+ghost use Prim.Native.Nat.{_+_, _≤_, _<_};
+ghost use lib.Dec.{eqb};
+ghost use lib.ListN.{length};
+ghost use Rattle.words.specs.Words.{occurs as Words·occurs};
+ghost use Rattle.words.specs.Tables.{written};
+ghost use Rattle.marks.specs.Marks.{starts as Marks·starts, markOf, Reaches};
+
+// Whether the first q readings come again after the first p.
+fn occurs(x: &[u8], q: usize, p: usize) -> bool
+    requires { ⌜ p + q ≤ length (now x) ⌝ }
+    ensures { λ r. ⌜ r ≡ Words·occurs eqb (now (x .entry)) q p ⌝ }
+{
+    let mut k = 0;
+    while k < q {
+        if x[k] != x[p + k] {
+            return false;
+        }
+        k += 1;
+    }
+    true
+}
+
+// The same, and within the log.
+fn starts(x: &[u8], q: usize, p: usize) -> bool
+    requires { ⌜ p < length (now x) ⌝ }
+    ensures { λ r. ⌜ r ≡ Marks·starts (now (x .entry)) q p ⌝ }
+{
+    if x.len() - p < q {
+        return false;
+    }
+    occurs(x, q, p)
+}
+
+// A reading's mark, and how far the occurrences up to it reach.
+pub struct Marked {
+    pub mark: u8,
+    pub reach: usize,
+}
+
+fn judge(x: &[u8], q: usize, p: usize, reach: usize) -> Marked
+    requires { ⌜ (p < length (now x)) × Reaches (now x) q p reach ⌝ }
+    ensures { λ r. ⌜ (r .mark ≡ markOf (now (x .entry)) q p) × Reaches (now (x .entry)) q (p + 1) (r .reach) ⌝ }
+{
+    if starts(x, q, p) {
+        return Marked { mark: 2, reach: p + q };
+    }
+    if p < reach {
+        return Marked { mark: 1, reach: reach };
+    }
+    Marked { mark: 0, reach: reach }
+}
+
+// Marks each reading for the pattern of length q: 2 where an occurrence starts, 1 elsewhere inside one, 0 outside.
+fn mark_all(x: &[u8], q: usize, marks: &mut [u8])
+    requires { ⌜ length (now x) ≤ length (now marks) ⌝ }
+    ensures { λ _. ⌜ now (marks .exit) ≡ written (markOf (now (x .entry)) q) (length (now (x .entry))) (now (marks .entry)) ⌝ }
+{
+    let mut reach: usize = 0;
+    let mut p = 0;
+    while p < x.len() {
+        let m = judge(x, q, p, reach);
+        marks[p] = m.mark;
+        reach = m.reach;
+        p += 1;
+    }
+}

@@ -1,0 +1,14 @@
+-- `weighing::exponent` meets its contract. Assumes nothing.
+use borrow.Author.Needs.{needs}
+use Rattle.weighing.proofs.Steps.{zeros-most, exponent-limit}
+use Rattle.weighing.proofs.exponent.Statement.{statement}
+use Rattle.weighing.proofs.exponent.Tie as tie
+
+pub exponent-spec : {M : Type 1} → statement M
+exponent-spec =
+    tie.close
+    (tie.spec
+    (λ c. search needs)
+    (λ c. search zeros-most)
+    (λ c. search needs)
+    (λ c. search exponent-limit))

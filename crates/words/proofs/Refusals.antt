@@ -1,0 +1,155 @@
+-- Refusals: what an accepted call may rely on, and the two ways of an answer. Assumes nothing.
+use mathlib.Core.Bool.{Bool, true, false, cond, _||_}
+use mathlib.Core.Path.{_≡_, refl, sym, _∙_}
+use mathlib.Core.List.{List, [], _∷_}
+use Prim.Native.Nat.{ℕ, _+_, _≤_, _<_, min}
+use native.Mathlib.Omega.{arith}
+use lib.Dec.{eqb, ltb}
+use borrow.Author.Tests.{eqb-false, ltb-false, ltb-true, le-ltb, eq-eqb, ne-eqb}
+use Rattle.words.specs.Refusals.{Refusal, firstNo, empty, long, fewer, longest, outside, tableNo, logNo, prefixNo, coverTestNo, bestNo, windowNo}
+use Rattle.words.specs.Answers.{accepted}
+use Rattle.words.proofs.Tests.{by-test}
+
+-- any two outcomes that a contract allows are equal: each call's contract gives its whole outcome as an equation
+pub unique : {A : Type 0} {a b c : A} → a ≡ c → b ≡ c → a ≡ b
+unique e d = e ∙ sym d
+
+module _ {A : Type 0} where
+  pub accepted-yes : (k : ℕ) (v r : A) → k ≡ 0 → accepted k v r ≡ v
+  unfolding accepted
+  accepted-yes k v r e = rw (eq-eqb k 0 e)
+
+  pub accepted-no : (k : ℕ) (v r : A) → (k ≡ 0 → ⊥) → accepted k v r ≡ r
+  unfolding accepted
+  accepted-no k v r e = rw (ne-eqb k 0 e)
+
+-- ---- the tests of a log come first
+
+module _ (n : ℕ) (ts : List Refusal) where
+  -- one of them passed: that is the answer
+  pub log-refused : (k : ℕ) → k ≡ logNo n → (k ≡ 0 → ⊥) → k ≡ firstNo (empty n ∷ long n ∷ ts)
+  unfolding logNo firstNo
+  log-refused k e nz = by-test (eqb n 0)
+      (λ t. e ∙ simp t)
+      (λ t. by-test (ltb longest n) (λ u. e ∙ simp (t, u)) (λ u. absurd (nz (e ∙ simp (t, u)))))
+
+  -- none did: the rest decides
+  pub log-passed : logNo n ≡ 0 → firstNo ts ≡ firstNo (empty n ∷ long n ∷ ts)
+  unfolding logNo firstNo
+  log-passed e = by-test (eqb n 0)
+      (λ t. absurd (omega (arith, simp t at e)))
+      (λ t. by-test (ltb longest n) (λ u. absurd (omega (arith, simp (t, u) at e))) (λ u. simp (t, u)))
+
+-- a test that passes, and one that fails
+pub first-yes : (b : Bool) (k : ℕ) (ts : List Refusal) → b ≡ true → k ≡ firstNo ((b, k) ∷ ts)
+unfolding firstNo
+first-yes b k ts e = simp e
+
+pub first-no : (b : Bool) (k : ℕ) (ts : List Refusal) → b ≡ false → firstNo ts ≡ firstNo ((b, k) ∷ ts)
+unfolding firstNo
+first-no b k ts e = simp e
+
+pub first-none : 0 ≡ firstNo []
+unfolding firstNo
+first-none = refl
+
+-- of two tables the smaller decides
+pub fewer-least : (a b : ℕ) (rs : List ℕ) (n : ℕ) → fewer (a ∷ b ∷ rs) n ≡ fewer (min a b ∷ rs) n
+unfolding fewer
+fewer-least a b rs n = by-test (ltb (min a b) n)
+    (λ t. by-test (ltb a n)
+    (λ u. simp (t, u))
+    (λ u. by-test (ltb b n) (λ v. simp (t, u, v)) (λ v. absurd (omega (arith, ltb-true (min a b) n t, ltb-false a n u, ltb-false b n v)))))
+    (λ t. let h = ltb-false (min a b) n t in simp (t, le-ltb a n (omega arith), le-ltb b n (omega arith)))
+
+-- ---- no test passed
+
+first-zero : (b : Bool) (k : ℕ) (ts : List Refusal) → 0 < k → firstNo ((b, k) ∷ ts) ≡ 0 → (b ≡ false) × (firstNo ts ≡ 0)
+unfolding firstNo
+first-zero true k ts h e = absurd (omega arith)
+first-zero false k ts h e = (refl, e)
+
+or-false : (a b : Bool) → a || b ≡ false → (a ≡ false) × (b ≡ false)
+or-false true b e = absurd (omega (arith, wrong e))
+  where
+    wrong : true ≡ false → _≡_ {A = ℕ} 0 1
+    wrong e = cc
+or-false false b e = (refl, e)
+
+pub fewer-none : (r : ℕ) (rs : List ℕ) (n : ℕ) → fewer (r ∷ rs) n ≡ false → (n ≤ r) × (fewer rs n ≡ false)
+unfolding fewer
+fewer-none r rs n e = let d = or-false (ltb r n) (fewer rs n) e in (ltb-false r n (d .0), d .1)
+
+-- a log that is judged
+pub record Judged (n : ℕ) : Type 0 where
+  pub some : 0 < n
+  pub most : n ≤ longest
+
+judged : (n : ℕ) (ts : List Refusal) → firstNo ((eqb n 0, 1) ∷ (ltb longest n, 2) ∷ ts) ≡ 0 → Judged n × (firstNo ts ≡ 0)
+judged n ts e =
+    let a = first-zero (eqb n 0) 1 ((ltb longest n, 2) ∷ ts) (omega arith) e in
+    let b = first-zero (ltb longest n) 2 ts (omega arith) (a .1) in
+    let z = eqb-false n 0 (a .0) in
+    (record { some = omega arith; most = ltb-false longest n (b .0) }, b .1)
+
+pub log-judged : (n : ℕ) → logNo n ≡ 0 → Judged n
+unfolding logNo
+log-judged n e = judged n [] e .0
+
+module _ (n : ℕ) (rooms : List ℕ) (e : tableNo n rooms ≡ 0) where
+  pub table-judged : Judged n
+  unfolding tableNo
+  table-judged = judged n _ e .0
+
+  pub table-room : fewer rooms n ≡ false
+  unfolding tableNo
+  table-room = first-zero (fewer rooms n) 4 [] (omega arith) (judged n _ e .1) .0
+
+inside-of : (n i : ℕ) → outside n i ≡ false → (0 < i) × (i ≤ n)
+inside-of n i e =
+    let d = or-false (eqb i 0) (ltb n i) e in
+    let z = eqb-false i 0 (d .0) in
+    (omega arith, ltb-false n i (d .1))
+
+module _ (n i : ℕ) (e : prefixNo n i ≡ 0) where
+  pub prefix-judged : Judged n
+  unfolding prefixNo
+  prefix-judged = judged n _ e .0
+
+  pub prefix-inside : (0 < i) × (i ≤ n)
+  unfolding prefixNo
+  prefix-inside = inside-of n i (first-zero (outside n i) 3 [] (omega arith) (judged n _ e .1) .0)
+
+module _ (n i q : ℕ) (e : coverTestNo n i q ≡ 0) where
+  pub coverTest-judged : Judged n
+  unfolding coverTestNo
+  coverTest-judged = judged n _ e .0
+
+  places-inside : (outside n i ≡ false) × (outside i q ≡ false)
+  unfolding coverTestNo
+  places-inside = or-false (outside n i) (outside i q) (first-zero (outside n i || outside i q) 3 [] (omega arith) (judged n _ e .1) .0)
+
+  pub coverTest-inside : (0 < i) × (i ≤ n)
+  coverTest-inside = inside-of n i (places-inside .0)
+
+  pub coverTest-pattern : (0 < q) × (q ≤ i)
+  coverTest-pattern = inside-of i q (places-inside .1)
+
+module _ (n a m : ℕ) (rooms : List ℕ) (e : windowNo n a m rooms ≡ 0) where
+  pub window-judged : Judged n
+  unfolding windowNo
+  window-judged = judged n _ e .0
+
+  after-place : ((0 < m) × (a + m ≤ n)) × (fewer rooms (a + m) ≡ false)
+  unfolding windowNo
+  after-place =
+      let p = first-zero (eqb m 0 || ltb n (a + m)) 3 _ (omega arith) (judged n _ e .1) in
+      let d = or-false (eqb m 0) (ltb n (a + m)) (p .0) in
+      let z = eqb-false m 0 (d .0) in
+      ((omega arith, ltb-false n (a + m) (d .1)), first-zero (fewer rooms (a + m)) 4 [] (omega arith) (p .1) .0)
+
+  pub window-inside : (0 < m) × (a + m ≤ n)
+  window-inside = after-place .0
+
+  pub window-room : fewer rooms (a + m) ≡ false
+  window-room = after-place .1
