@@ -1,11 +1,11 @@
 // How a pattern lies in a log, for a picture of it.
 ghost use mathlib.Core.Path.{_≡_};
-ghost use Prim.Native.Nat.{_+_, _≤_, _<_};
+ghost use Prim.Native.Nat.{_+_, _-_, _≤_, _<_};
 ghost use lib.Dec.{eqb};
-ghost use lib.ListN.{length};
+ghost use lib.ListN.{length, getD};
 ghost use Rattle.words.specs.Words.{occurs as Words·occurs};
 ghost use Rattle.words.specs.Tables.{written};
-ghost use Rattle.marks.specs.Marks.{starts as Marks·starts, markOf, Reaches};
+ghost use Rattle.marks.specs.Marks.{starts as Marks·starts, markOf, Reaches, Run};
 
 // Whether the first q readings come again after the first p.
 fn occurs(x: &[u8], q: usize, p: usize) -> bool
@@ -41,7 +41,7 @@ pub struct Marked {
 
 fn judge(x: &[u8], q: usize, p: usize, reach: usize) -> Marked
     requires { ⌜ (p < length (now x)) × Reaches (now x) q p reach ⌝ }
-    ensures { λ r. ⌜ (r .mark ≡ markOf (now (x .entry)) q p) × Reaches (now (x .entry)) q (p + 1) (r .reach) ⌝ }
+    ensures { λ r. ⌜ (r .mark ≡ markOf q (now (x .entry)) p) × Reaches (now (x .entry)) q (p + 1) (r .reach) ⌝ }
 {
     if starts(x, q, p) {
         return Marked { mark: 2, reach: p + q };
@@ -53,9 +53,9 @@ fn judge(x: &[u8], q: usize, p: usize, reach: usize) -> Marked
 }
 
 // Marks each reading for the pattern of length q: 2 where an occurrence starts, 1 elsewhere inside one, 0 outside.
-fn mark_all(x: &[u8], q: usize, marks: &mut [u8])
+pub fn mark_all(x: &[u8], q: usize, marks: &mut [u8])
     requires { ⌜ length (now x) ≤ length (now marks) ⌝ }
-    ensures { λ _. ⌜ now (marks .exit) ≡ written (markOf (now (x .entry)) q) (length (now (x .entry))) (now (marks .entry)) ⌝ }
+    ensures { λ _. ⌜ now (marks .exit) ≡ written (markOf q (now (x .entry))) (length (now (x .entry))) (now (marks .entry)) ⌝ }
 {
     let mut reach: usize = 0;
     let mut p = 0;
@@ -65,4 +65,33 @@ fn mark_all(x: &[u8], q: usize, marks: &mut [u8])
         reach = m.reach;
         p += 1;
     }
+}
+
+// Where the run of v ends that starts after p readings.
+pub fn end_of_run(x: &[u8], v: u8, p: usize) -> usize
+    requires { ⌜ p ≤ length (now x) ⌝ }
+    ensures { λ r. ⌜ Run (now (x .entry)) v p r × (r < length (now (x .entry)) → getD (now (x .entry)) r 0 ≡ v → ⊥) ⌝ }
+{
+    let mut e = p;
+    while e < x.len() {
+        if x[e] != v {
+            return e;
+        }
+        e += 1;
+    }
+    e
+}
+
+// How many readings the run of v has that ends the log.
+pub fn last_run(x: &[u8], v: u8) -> usize
+    ensures { λ r. ⌜ r ≤ length (now (x .entry)) ⌝ }
+{
+    let mut p = x.len();
+    while 0 < p {
+        if x[p - 1] != v {
+            return x.len() - p;
+        }
+        p -= 1;
+    }
+    x.len()
 }

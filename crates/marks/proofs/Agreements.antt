@@ -1,0 +1,43 @@
+-- Reading by reading: the loop that looks for an occurrence. Each premise stands as the code's tests give it. Assumes nothing.
+use mathlib.Core.Bool.{Bool, true, false, _&&_}
+use mathlib.Core.Path.{_≡_, refl, sym, _∙_}
+use mathlib.Core.List.{List}
+use Prim.Native.Nat.{ℕ, suc, _+_, _-_, _≤_, _<_}
+use native.Mathlib.Omega.{arith}
+use lib.Dec.{eqb, leb}
+use lib.ListN.{length, getD}
+use borrow.Author.Tests.{eq-eqb, ne-eqb, lt-leb, le-leb}
+use Rattle.words.specs.Search.{all}
+use Rattle.words.specs.Words.{occurs}
+use Rattle.words.proofs.Search.{all-none, all-more, all-fails}
+use Rattle.marks.specs.Marks.{starts}
+
+-- the first k readings agree with those after p; q are asked for
+pub record Agree (x : List ℕ) (q p k : ℕ) : Type 0 where
+  pub within : k ≤ q
+  pub so-far : occurs eqb x k p ≡ true
+
+pub agree-none : (x : List ℕ) (q p : ℕ) → Agree x q p 0
+unfolding occurs
+agree-none x q p = record { within = omega arith; so-far = all-none _ }
+
+module _ (x : List ℕ) (q p k : ℕ) (a : Agree x q p k) where
+  pub agree-more : k < q → getD x k 0 ≡ getD x (p + k) 0 → Agree x q p (k + 1)
+  unfolding occurs
+  agree-more h e = record { within = omega arith; so-far = all-more _ k (a .so-far) (eq-eqb _ _ e) }
+
+  pub differ : k < q → (getD x k 0 ≡ getD x (p + k) 0 → ⊥) → false ≡ occurs eqb x q p
+  unfolding occurs
+  differ h e = sym (all-fails _ q k h (ne-eqb _ _ e))
+
+  pub agree-all : q ≤ k → true ≡ occurs eqb x q p
+  agree-all h = let e : k ≡ q = omega arith in sym (rw e at (a .so-far))
+
+module _ (x : List ℕ) (q p : ℕ) (i : p < length x) where
+  pub past-end : length x - p < q → false ≡ starts x q p
+  unfolding starts
+  past-end h = rw (lt-leb (p + q) (length x) (omega arith))
+
+  pub in-log : (b : Bool) → q ≤ length x - p → b ≡ occurs eqb x q p → b ≡ starts x q p
+  unfolding starts
+  in-log b h e = rw (le-leb (p + q) (length x) (omega arith)) e
