@@ -3,7 +3,7 @@ use mathlib.Core.Bool.{Bool, true, cond, _&&_}
 use mathlib.Core.Path.{_≡_}
 use mathlib.Core.List.{List}
 use mathlib.Core.Logic.{_⊎_}
-use Prim.Native.Nat.{ℕ, _+_, _≤_, _<_}
+use Prim.Native.Nat.{ℕ, _+_, _-_, _≤_, _<_}
 use lib.Dec.{eqb, leb}
 use lib.ListN.{length, getD}
 use Rattle.words.specs.Words.{occurs, inside}
@@ -27,3 +27,9 @@ pub record Run (x : List ℕ) (v p e : ℕ) : Type 0 where
   pub rises : p ≤ e
   pub within : e ≤ length x
   pub same : (k : ℕ) → p ≤ k → k < e → getD x k 0 ≡ v
+
+-- the last n readings are a run of v, and no more of them are
+pub record LastRun (x : List ℕ) (v n : ℕ) : Type 0 where
+  pub few : n ≤ length x
+  pub run : Run x v (length x - n) (length x)
+  pub no-more : n < length x → getD x (length x - n - 1) 0 ≡ v → ⊥

@@ -1,11 +1,11 @@
 // How a pattern lies in a log, for a picture of it.
 ghost use mathlib.Core.Path.{_≡_};
-ghost use Prim.Native.Nat.{_+_, _-_, _≤_, _<_};
+ghost use Prim.Native.Nat.{_+_, _≤_, _<_};
 ghost use lib.Dec.{eqb};
 ghost use lib.ListN.{length, getD};
 ghost use Rattle.words.specs.Words.{occurs as Words·occurs};
 ghost use Rattle.words.specs.Tables.{written};
-ghost use Rattle.marks.specs.Marks.{starts as Marks·starts, markOf, Reaches, Run};
+ghost use Rattle.marks.specs.Marks.{starts as Marks·starts, markOf, Reaches, Run, LastRun};
 
 // Whether the first q readings come again after the first p.
 fn occurs(x: &[u8], q: usize, p: usize) -> bool
@@ -84,7 +84,7 @@ pub fn end_of_run(x: &[u8], v: u8, p: usize) -> usize
 
 // How many readings the run of v has that ends the log.
 pub fn last_run(x: &[u8], v: u8) -> usize
-    ensures { λ r. ⌜ r ≤ length (now (x .entry)) ⌝ }
+    ensures { λ r. ⌜ LastRun (now (x .entry)) v r ⌝ }
 {
     let mut p = x.len();
     while 0 < p {

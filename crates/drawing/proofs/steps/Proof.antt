@@ -1,3 +1,5 @@
+use Prim.Native.Nat.{_≤_, _<_, _-_}
+use lib.ListN.{length}
 use native.Mathlib.Omega.{arith}
 use borrow.Author.Needs.{needs}
 use Rattle.drawing.proofs.steps.Statement.{statement}
@@ -7,32 +9,32 @@ use Rattle.drawing.proofs.steps.Lts as lts
 use Rattle.drawing.proofs.step.Reads as step-reads
 
 abbrev Inv-loop : tie.InvT-loop
-Inv-loop to x k₀ k = ?
+Inv-loop to x k₀ k = 0 < k
 
 abbrev μ-loop : tie.MeasureT-loop
-μ-loop to x k₀ k = ?
+μ-loop to x k₀ k = length x - k
 
--- src/lib.rt:103:5
+-- src/lib.rt:100:5
 loop-holds : tie.Need-loop-holds Inv-loop μ-loop
 loop-holds c = search needs
 
--- src/lib.rt:104:9
+-- src/lib.rt:101:9
 step-requires : tie.Need-step-requires Inv-loop μ-loop
 step-requires c κs = search needs
 
--- src/lib.rt:105:9
+-- src/lib.rt:102:9
 add-k : tie.Need-add-k Inv-loop μ-loop
 add-k c = search needs
 
--- src/lib.rt:103:5
+-- src/lib.rt:100:5
 loop-less : tie.Need-loop-less Inv-loop μ-loop
 loop-less c = search needs
 
--- src/lib.rt:103:5
+-- src/lib.rt:100:5
 loop-again : tie.Need-loop-again Inv-loop μ-loop
 loop-again c = search needs
 
--- src/lib.rt:101:1
+-- src/lib.rt:98:1
 returns : tie.Need-returns Inv-loop μ-loop
 returns c = search needs
 
