@@ -4,7 +4,7 @@ use mathlib.Core.Path.{_≡_, refl, sym, ap, _∙_}
 use mathlib.Core.List.{List, [], _∷_, _++_}
 use mathlib.Core.Logic.{⊎-elim}
 use Prim.Native.Nat.{ℕ, _+_, _-_, _≤_, _<_}
-use native.Mathlib.Nat.{sub-zero, eq-zero-or-pos}
+use native.Mathlib.Nat.{sub-zero, zero-add, eq-zero-or-pos}
 use native.Mathlib.Omega.{arith}
 use lib.Dec.{eqb}
 use lib.ListN.{length, take, drop, replicate}
@@ -15,18 +15,20 @@ use mir.Val.{Fits}
 use Rattle.words.specs.declared.Part.{Part}
 use Rattle.words.specs.declared.Breakdown.{Breakdown}
 use Rattle.words.specs.declared.Weighed.{Weighed}
+use Rattle.words.specs.declared.Weighing.{Weighing}
 use Rattle.words.specs.declared.CoverTest.{CoverTest}
 use Rattle.words.specs.declared.CoverTest.the-variants.{Yes, No, Refused}
 use Rattle.words.specs.Words as W
-use Rattle.words.specs.Tables.{Column, written, bestRow, countRow}
-use Rattle.words.specs.Refusals.{firstNo, fewer, longest, tableNo, logNo, prefixNo, coverTestNo, bestNo}
+use Rattle.words.specs.Tables.{Column, written, window, placed, borderRow, prefixRow, coverRow, bestRow, countRow}
+use Rattle.words.specs.Refusals.{firstNo, fewer, longest, tableNo, logNo, prefixNo, coverTestNo, bestNo, windowNo}
 use Rattle.words.specs.Answers as A
 use Rattle.words.proofs.Tables.{Room}
 use Rattle.words.proofs.Places.{places-none}
-use Rattle.words.proofs.Refusals.{Judged, accepted-yes, accepted-no, log-judged, table-judged, table-room, fewer-none, prefix-judged, prefix-inside, coverTest-judged, coverTest-inside, coverTest-pattern, log-refused, log-passed}
+use Rattle.words.proofs.Refusals.{Judged, accepted-yes, accepted-no, log-judged, table-judged, table-room, fewer-none, prefix-judged, prefix-inside, coverTest-judged, coverTest-inside, coverTest-pattern, log-refused, log-passed, window-judged, window-inside, window-room}
 use Rattle.words.proofs.Locality.{take-alike, normal-local, covers-local, weighed-local}
 use Rattle.words.proofs.CoverLists.{coverList-le}
 use Rattle.words.proofs.Bests.{best-lt}
+use Rattle.windowed.specs.Within.{Within}
 use Rattle.finder.specs.Steps.{patternLength}
 
 -- ---- a call that writes one column
@@ -260,3 +262,69 @@ pattern-part x {b} e = front-take x b ∙ ⊎-elim
     rw (e ∙ accepted-no (logNo (length x)) (W.best eqb x (length x)) 0 nz)
     (sym (accepted-no (A.bestPatternNo x) (take (W.best eqb x (length x)) x) [] (log-no x nz))))
     (eq-zero-or-pos (logNo (length x)))
+
+-- the part begins where the log begins
+pub same-place : (p : ℕ × ℕ) → (p .0, 0 + p .1) ≡ p
+same-place p = ap (λ (o : ℕ). (p .0, o)) (zero-add (p .1))
+
+-- ---- a window
+
+module _ (x : List ℕ) (a m : ℕ) (b p c e k : List ℕ) where
+  -- what the contract says of the answer and of the five tables afterwards
+  abbrev pub Windowed : Weighing → List ℕ → List ℕ → List ℕ → List ℕ → List ℕ → Type 0
+  Windowed r b′ p′ c′ e′ k′ =
+      (r ≡ A.windowAnswer (A.windowCode x a m b p c e k) x a m)
+      × ((b′ ≡ A.windowAfter (A.windowCode x a m b p c e k) borderRow x a m b)
+      × ((p′ ≡ A.windowAfter (A.windowCode x a m b p c e k) prefixRow x a m p)
+      × ((c′ ≡ A.windowAfter (A.windowCode x a m b p c e k) coverRow x a m c)
+      × ((e′ ≡ A.windowAfter (A.windowCode x a m b p c e k) bestRow x a m e)
+      × (k′ ≡ A.windowAfter (A.windowCode x a m b p c e k) countRow x a m k)))))
+
+  abbrev number : ℕ
+  number = windowNo (length x) a m (length b ∷ length p ∷ length c ∷ length e ∷ length k ∷ [])
+
+  pub window-refused : {n : ℕ} → n ≡ number → (n ≡ 0 → ⊥) → Windowed (record { number = n; total = 0 }) b p c e k
+  unfolding A.windowCode A.windowAnswer A.weighing A.windowAfter
+  window-refused {n} d nz = rw (← d) (
+    rw (accepted-no n (W.total eqb (window a m x)) 0 nz),
+    (
+      sym (accepted-no n (placed (borderRow (window a m x)) a m b) b nz),
+      (
+        sym (accepted-no n (placed (prefixRow (window a m x)) a m p) p nz),
+        (
+          sym (accepted-no n (placed (coverRow (window a m x)) a m c) c nz),
+          (sym (accepted-no n (placed (bestRow (window a m x)) a m e) e nz), sym (accepted-no n (placed (countRow (window a m x)) a m k) k nz)),
+        ),
+      ),
+    ),
+  )
+
+  module _ (z : number ≡ 0) where
+    pub window-within : Within x a m b p c e k
+    window-within =
+        let r1 = fewer-none (length b) _ (a + m) (window-room (length x) a m _ z) in
+        let r2 = fewer-none (length p) _ (a + m) (r1 .1) in
+        let r3 = fewer-none (length c) _ (a + m) (r2 .1) in
+        let r4 = fewer-none (length e) _ (a + m) (r3 .1) in
+        let r5 = fewer-none (length k) _ (a + m) (r4 .1) in record {
+          most = window-judged (length x) a m _ z .most;
+          inside = window-inside (length x) a m _ z .1;
+          borders = r1 .0;
+          prefixes = r2 .0;
+          covers = r3 .0;
+          bests = r4 .0;
+          counts = r5 .0;
+        }
+
+    pub window-done : {n : ℕ} {b′ p′ c′ e′ k′ : List ℕ}
+        → b′ ≡ placed (borderRow (window a m x)) a m b → p′ ≡ placed (prefixRow (window a m x)) a m p → c′ ≡ placed (coverRow (window a m x)) a m c
+        → e′ ≡ placed (bestRow (window a m x)) a m e → k′ ≡ placed (countRow (window a m x)) a m k → n ≡ W.total eqb (window a m x)
+        → Windowed (record { number = 0; total = n }) b′ p′ c′ e′ k′
+    unfolding A.windowCode A.windowAnswer A.weighing A.windowAfter
+    window-done eb ep ec ee ek et = (
+      rw (accepted-yes number (W.total eqb (window a m x)) 0 z, z, et),
+      (
+        eb ∙ sym (accepted-yes number _ b z),
+        (ep ∙ sym (accepted-yes number _ p z), (ec ∙ sym (accepted-yes number _ c z), (ee ∙ sym (accepted-yes number _ e z), ek ∙ sym (accepted-yes number _ k z)))),
+      ),
+    )

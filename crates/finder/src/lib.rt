@@ -1,5 +1,6 @@
 // Floor 3: the calls. Each takes every log and every lent table, refuses in the order of `refusals`, and hands an accepted log to floor 2.
 ghost use mathlib.Core.Path.{_≡_};
+ghost use denote.Ref.{ptr};
 ghost use Rattle.words.specs.Tables.{borderRow, prefixRow, coverRow, bestRow, countRow};
 ghost use Rattle.words.specs.Answers as Answers;
 ghost use Rattle.finder.specs.Steps.{patternLength};
@@ -184,10 +185,55 @@ fn pattern_length(x: &[u8]) -> usize
     judged::best(x)
 }
 
-// The best pattern, as that part of the caller's log; the empty part where the call is refused.
+// The best pattern, as that part of the caller's log, which lies where the log begins; the empty part where the call is refused.
 pub fn best_pattern(x: &[u8]) -> &[u8]
-    ensures { λ r. ⌜ now r ≡ Answers.bestPatternPart (now (x .entry)) ⌝ }
+    ensures part { λ r. ⌜ now r ≡ Answers.bestPatternPart (now (x .entry)) ⌝ }
+    ensures place { λ r. ⌜ ptr r ≡ ptr (x .entry) ⌝ }
 {
     let b = pattern_length(x);
     &x[0..b]
+}
+
+// ---- a window
+
+// Writes the five columns of the window of m readings after the first a into the rows a + 1 to a + m of the lent tables, and returns the window's own
+// weighed total. The window is judged as a log of its own.
+pub fn window(
+    x: &[u8],
+    a: usize,
+    m: usize,
+    border: &mut [u16],
+    prefix: &mut [u16],
+    cover: &mut [u16],
+    best: &mut [u16],
+    count: &mut [u16],
+) -> words::Weighing
+    ensures answer { λ r. ⌜ r ≡ Answers.windowAnswer (Answers.windowCode (now (x .entry)) a m (now (border .entry)) (now (prefix .entry)) (now (cover .entry)) (now (best .entry)) (now (count .entry))) (now (x .entry)) a m ⌝ }
+    ensures border { λ _. ⌜ now (border .exit) ≡ Answers.windowAfter (Answers.windowCode (now (x .entry)) a m (now (border .entry)) (now (prefix .entry)) (now (cover .entry)) (now (best .entry)) (now (count .entry))) borderRow (now (x .entry)) a m (now (border .entry)) ⌝ }
+    ensures prefix { λ _. ⌜ now (prefix .exit) ≡ Answers.windowAfter (Answers.windowCode (now (x .entry)) a m (now (border .entry)) (now (prefix .entry)) (now (cover .entry)) (now (best .entry)) (now (count .entry))) prefixRow (now (x .entry)) a m (now (prefix .entry)) ⌝ }
+    ensures cover { λ _. ⌜ now (cover .exit) ≡ Answers.windowAfter (Answers.windowCode (now (x .entry)) a m (now (border .entry)) (now (prefix .entry)) (now (cover .entry)) (now (best .entry)) (now (count .entry))) coverRow (now (x .entry)) a m (now (cover .entry)) ⌝ }
+    ensures best { λ _. ⌜ now (best .exit) ≡ Answers.windowAfter (Answers.windowCode (now (x .entry)) a m (now (border .entry)) (now (prefix .entry)) (now (cover .entry)) (now (best .entry)) (now (count .entry))) bestRow (now (x .entry)) a m (now (best .entry)) ⌝ }
+    ensures count { λ _. ⌜ now (count .exit) ≡ Answers.windowAfter (Answers.windowCode (now (x .entry)) a m (now (border .entry)) (now (prefix .entry)) (now (cover .entry)) (now (best .entry)) (now (count .entry))) countRow (now (x .entry)) a m (now (count .entry)) ⌝ }
+{
+    let no = refusals::window(
+        x.len(),
+        a,
+        m,
+        border.len(),
+        prefix.len(),
+        cover.len(),
+        best.len(),
+        count.len(),
+    );
+    if no != 0 {
+        return words::Weighing {
+            number: no,
+            total: 0,
+        };
+    }
+    let total = windowed::rows(x, a, m, border, prefix, cover, best, count);
+    words::Weighing {
+        number: 0,
+        total: total,
+    }
 }

@@ -8,7 +8,6 @@ use lib.ListN.{length, take, replicate}
 use mathlib.Core.Path.{_≡_}
 use Rattle.words.specs.Words as W
 use Rattle.words.specs.Tables as T
-use Rattle.words.specs.Refusals as R
 use Rattle.words.specs.Answers as A
 
 -- What may be asked of a string. `weighed i` and `limit i`: at i. `window a m c`: column c of a lent table of twelve entries 77 after that window;
@@ -32,9 +31,12 @@ unfoldable pub bytes : String → List ℕ
 bytes String.[] = []
 bytes (String._∷_ c s) = code c ∷ bytes s
 
--- five tables of twelve entries
-abbrev pub rooms : List ℕ
-rooms = replicate 5 12
+-- the number of a window with five tables of twelve entries
+abbrev pub twelve : List ℕ
+twelve = replicate 12 77
+
+abbrev pub windowNumber : List ℕ → ℕ → ℕ → ℕ
+windowNumber x a m = A.windowCode x a m twelve twelve twelve twelve twelve
 
 unfoldable pub answer : List ℕ → Asked → List ℕ
 answer x border = T.tabulate (T.borderRow x) (length x)
@@ -48,8 +50,8 @@ answer x breakdown = let b = A.breakdownAnswer x in take (b .used) (map (λ p. p
 answer x bestRefused = A.bestPatternNo x ∷ []
 answer x (weighed i) = W.weighed eqb x i
 answer x (limit i) = W.limit i ∷ []
-answer x (windowRefused a m) = R.windowNo (length x) a m rooms ∷ []
-answer x (window a m c) = A.windowAfter (R.windowNo (length x) a m rooms) c x a m (replicate 12 77)
+answer x (windowRefused a m) = windowNumber x a m ∷ []
+answer x (window a m c) = A.windowAfter (windowNumber x a m) c x a m twelve
 
 -- what the row asks, answered by the definitions, is what it says
 unfoldable pub asked : Claim → Asked

@@ -106,6 +106,13 @@ bestPatternNo x = bestNo (length x) (best eqb x (length x))
 unfoldable pub bestPatternPart : List ℕ → List ℕ
 bestPatternPart x = accepted (bestPatternNo x) (bestPattern eqb x) []
 
--- A window of m readings after the first a: each of its five tables afterwards; the answer is `weighing` of the window
+-- A window of m readings after the first a, with five lent tables: the number, the answer, and each table afterwards
+unfoldable pub windowCode : List ℕ → ℕ → ℕ → List ℕ → List ℕ → List ℕ → List ℕ → List ℕ → ℕ
+windowCode x a m border prefix cover best count =
+    windowNo (length x) a m (length border ∷ length prefix ∷ length cover ∷ length best ∷ length count ∷ [])
+
+unfoldable pub windowAnswer : ℕ → List ℕ → ℕ → ℕ → Weighing
+windowAnswer code x a m = weighing code (window a m x)
+
 unfoldable pub windowAfter : ℕ → Column → List ℕ → ℕ → ℕ → List ℕ → List ℕ
 windowAfter code f x a m t = accepted code (placed (f (window a m x)) a m t) t

@@ -1,6 +1,6 @@
 -- `finder::best_pattern` meets its contract. Assumes nothing.
 use borrow.Author.Needs.{needs}
-use Rattle.finder.proofs.Answers.{pattern-within, pattern-part}
+use Rattle.finder.proofs.Answers.{pattern-within, pattern-part, same-place}
 use Rattle.finder.proofs.best_pattern.Statement.{statement}
 use Rattle.finder.proofs.best_pattern.Tie as tie
 
@@ -12,4 +12,4 @@ best-pattern-spec =
     (λ c. search needs)
     (λ c. search needs)
     (λ c. search pattern-within)
-    (λ c. search pattern-part))
+    (λ c. (search pattern-part, same-place _)))

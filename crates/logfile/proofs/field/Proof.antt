@@ -1,0 +1,17 @@
+-- `logfile::field` meets its contract. Assumes nothing.
+use borrow.Author.Needs.{needs}
+use Rattle.logfile.proofs.Steps.{field-is}
+use Rattle.logfile.proofs.field.Statement.{statement}
+use Rattle.logfile.proofs.field.Tie as tie
+
+pub field-spec : {M : Type 1} → statement M
+field-spec =
+    tie.close
+    (tie.spec
+    (λ c. search needs)
+    (λ c κs. search needs)
+    (λ c. search needs)
+    (λ c. search needs)
+    (λ c κs. search needs)
+    (λ c. search needs)
+    (λ c. search field-is))
