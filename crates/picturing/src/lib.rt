@@ -1,23 +1,20 @@
 // The picture of a plant's file.
-ghost use Prim.Native.Nat.{_≤_};
 
-// How many entries of a lent table are used.
-fn used(n: u16) -> usize
-    ensures { λ r. ⌜ r ≤ 4096 ⌝ }
-{
-    if 4096 < n { 4096 } else { n as usize }
-}
-
-// How many places of a weighed list are used.
-fn places(n: u16) -> usize
-    ensures { λ r. ⌜ r ≤ 12 ⌝ }
-{
-    if 12 < n { 12 } else { n as usize }
+// The used entries of a list.
+fn front(t: &[u16], used: u16) -> &[u16] {
+    let n = used as usize;
+    if t.len() < n {
+        return t;
+    }
+    &t[0..n]
 }
 
 // The row of the first n readings.
 fn row(t: &[u16], n: usize) -> u16 {
-    if n == 0 || t.len() < n {
+    if n == 0 {
+        return 0;
+    }
+    if t.len() < n {
         return 0;
     }
     t[n - 1]
@@ -45,9 +42,7 @@ fn draw(to: i32, x: &[u8]) {
     let listed = finder::cover_list(x, &mut covers);
     let weighed = finder::weighed_list(x, x.len());
     let lens = weighed.lens;
-    let c = used(listed.used);
-    let w = places(weighed.used);
-    drawing::draw(to, x, &covers[0..c], &lens[0..w], numbers(x));
+    drawing::draw(to, x, front(&covers, listed.used), front(&lens, weighed.used), numbers(x));
 }
 
 // Reads a file of at most 4,099 bytes; a byte more makes it one of a wrong size.

@@ -2,11 +2,11 @@ use Prim.Native.Nat.{_≤_, _<_, _-_}
 use lib.ListN.{length}
 use native.Mathlib.Omega.{arith}
 use borrow.Author.Needs.{needs}
-use Rattle.drawing.proofs.steps.Statement.{statement}
-use Rattle.drawing.proofs.steps.Tie as tie
-use Rattle.drawing.proofs.steps.Reads as reads
-use Rattle.drawing.proofs.steps.Lts as lts
-use Rattle.drawing.proofs.step.Reads as step-reads
+use Rattle.strokes.proofs.steps.Statement.{statement}
+use Rattle.strokes.proofs.steps.Tie as tie
+use Rattle.strokes.proofs.steps.Reads as reads
+use Rattle.strokes.proofs.steps.Lts as lts
+use Rattle.strokes.proofs.step.Reads as step-reads
 
 abbrev Inv-loop : tie.InvT-loop
 Inv-loop to x k₀ k = 0 < k

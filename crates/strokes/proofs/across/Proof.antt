@@ -1,10 +1,10 @@
-use Rattle.drawing.proofs.Places.{part-of-width}
+use Rattle.strokes.proofs.Places.{part-of-width}
 use native.Mathlib.Omega.{arith}
 use borrow.Author.Needs.{needs}
-use Rattle.drawing.proofs.across.Statement.{statement}
-use Rattle.drawing.proofs.across.Tie as tie
-use Rattle.drawing.proofs.across.Reads as reads
-use Rattle.drawing.proofs.across.Lts as lts
+use Rattle.strokes.proofs.across.Statement.{statement}
+use Rattle.strokes.proofs.across.Tie as tie
+use Rattle.strokes.proofs.across.Reads as reads
+use Rattle.strokes.proofs.across.Lts as lts
 
 -- src/lib.rt:39:9
 returns : tie.Need-returns

@@ -2,11 +2,11 @@ use Prim.Native.Nat.{_≤_, _<_, _-_}
 use lib.ListN.{length}
 use native.Mathlib.Omega.{arith}
 use borrow.Author.Needs.{needs}
-use Rattle.drawing.proofs.occurrences.Statement.{statement}
-use Rattle.drawing.proofs.occurrences.Tie as tie
-use Rattle.drawing.proofs.occurrences.Reads as reads
-use Rattle.drawing.proofs.occurrences.Lts as lts
-use Rattle.drawing.proofs.occurrence.Reads as occurrence-reads
+use Rattle.strokes.proofs.occurrences.Statement.{statement}
+use Rattle.strokes.proofs.occurrences.Tie as tie
+use Rattle.strokes.proofs.occurrences.Reads as reads
+use Rattle.strokes.proofs.occurrences.Lts as lts
+use Rattle.strokes.proofs.occurrence.Reads as occurrence-reads
 
 abbrev Inv-loop : tie.InvT-loop
 Inv-loop to marks q lane₀ p₀ lane p = Unit {0}

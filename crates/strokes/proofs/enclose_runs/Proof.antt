@@ -2,11 +2,11 @@ use Prim.Native.Nat.{_≤_, _<_, _-_}
 use lib.ListN.{length}
 use native.Mathlib.Omega.{arith}
 use borrow.Author.Needs.{needs}
-use Rattle.drawing.proofs.enclose_runs.Statement.{statement}
-use Rattle.drawing.proofs.enclose_runs.Tie as tie
-use Rattle.drawing.proofs.enclose_runs.Reads as reads
-use Rattle.drawing.proofs.enclose_runs.Lts as lts
-use Rattle.drawing.proofs.enclose_run.Reads as enclose-run-reads
+use Rattle.strokes.proofs.enclose_runs.Statement.{statement}
+use Rattle.strokes.proofs.enclose_runs.Tie as tie
+use Rattle.strokes.proofs.enclose_runs.Reads as reads
+use Rattle.strokes.proofs.enclose_runs.Lts as lts
+use Rattle.strokes.proofs.enclose_run.Reads as enclose-run-reads
 
 abbrev Inv-loop : tie.InvT-loop
 Inv-loop to x v top bottom p₀ p = Unit {0}

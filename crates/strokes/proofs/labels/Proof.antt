@@ -1,12 +1,12 @@
 use Prim.Native.Nat.{_≤_, _*_, _-_}
 use native.Mathlib.Omega.{arith}
 use borrow.Author.Needs.{needs}
-use Rattle.drawing.proofs.labels.Statement.{statement}
-use Rattle.drawing.proofs.labels.Tie as tie
-use Rattle.drawing.proofs.labels.Reads as reads
-use Rattle.drawing.proofs.labels.Lts as lts
-use Rattle.drawing.proofs.label.Reads as label-reads
-use Rattle.drawing.proofs.tick.Reads as tick-reads
+use Rattle.strokes.proofs.labels.Statement.{statement}
+use Rattle.strokes.proofs.labels.Tie as tie
+use Rattle.strokes.proofs.labels.Reads as reads
+use Rattle.strokes.proofs.labels.Lts as lts
+use Rattle.strokes.proofs.label.Reads as label-reads
+use Rattle.strokes.proofs.tick.Reads as tick-reads
 
 abbrev Inv-loop : tie.InvT-loop
 Inv-loop to n t k₀ i₀ k i = (i ≤ 10) × (k ≤ i * 500)

@@ -2,12 +2,12 @@ use Prim.Native.Nat.{_≤_, _<_, _-_}
 use lib.ListN.{length}
 use native.Mathlib.Omega.{arith}
 use borrow.Author.Needs.{needs}
-use Rattle.drawing.proofs.list.Statement.{statement}
-use Rattle.drawing.proofs.list.Tie as tie
-use Rattle.drawing.proofs.list.Reads as reads
-use Rattle.drawing.proofs.list.Lts as lts
-use Rattle.drawing.proofs.put.Reads as put-reads
-use Rattle.drawing.proofs.wide.Reads as wide-reads
+use Rattle.strokes.proofs.list.Statement.{statement}
+use Rattle.strokes.proofs.list.Tie as tie
+use Rattle.strokes.proofs.list.Reads as reads
+use Rattle.strokes.proofs.list.Lts as lts
+use Rattle.strokes.proofs.put.Reads as put-reads
+use Rattle.strokes.proofs.wide.Reads as wide-reads
 
 abbrev Inv-loop : tie.InvT-loop
 Inv-loop to t i₀ t4 i = Unit {0}
