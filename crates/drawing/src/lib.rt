@@ -82,12 +82,19 @@ fn pen(n: usize) -> usize {
 fn plot(to: i32, x: &[u8])
     requires { ⌜ 0 < length (now x) ⌝ }
 {
-    put(to, b"<path class='readings' clip-path='url(#plot)' stroke-width='", pen(x.len()));
+    put(
+        to,
+        b"<path class='readings' clip-path='url(#plot)' stroke-width='",
+        pen(x.len()),
+    );
     put(to, b"' d='M0 33000V", strokes::down(x[0]));
     strokes::steps(to, x);
     say(to, b"H100000V33000'/>\n<path class='stuck' d='");
     strokes::enclose_runs(to, x, 20, 0, 33000);
-    say(to, b"'/>\n<path class='ceiling' d='M0 3000H100000'/>\n<path class='held' d='");
+    say(
+        to,
+        b"'/>\n<path class='ceiling' d='M0 3000H100000'/>\n<path class='held' d='",
+    );
     strokes::enclose_runs(to, x, 20, 2600, 3400);
     say(to, b"'/>\n");
 }
@@ -104,10 +111,17 @@ fn lanes(to: i32, marks: &[u8], q: usize) {
 // What stands at the lanes: the best pattern, of length q, covers count of n readings.
 fn name_lanes(to: i32, q: usize, count: usize, n: usize) {
     if q == 0 {
-        say(to, b"<text class='note' x='120' y='482'>No pattern: no first part of the log comes again at its end.</text>\n");
+        say(
+            to,
+            b"<text class='note' x='120' y='482'>No pattern: no first part of the log comes again at its end.</text>\n",
+        );
         return;
     }
-    put(to, b"<text class='end' x='108' y='478'>best pattern</text>\n<text class='end' x='108' y='499'>not covered</text>\n<text x='120' y='546'>Best pattern: length ", q);
+    put(
+        to,
+        b"<text class='end' x='108' y='478'>best pattern</text>\n<text class='end' x='108' y='499'>not covered</text>\n<text x='120' y='546'>Best pattern: length ",
+        q,
+    );
     put(to, b". It covers ", count);
     put(to, b" of ", n);
     say(to, b" readings.</text>\n");
@@ -116,23 +130,39 @@ fn name_lanes(to: i32, q: usize, count: usize, n: usize) {
 // The line under the title: how the readings stand to the ceiling. The last of them are in a run at it.
 fn alarm(to: i32, n: usize, ceiling: usize, last: usize) {
     if ceiling == 0 {
-        say(to, b"<text class='note' x='40' y='92'>No reading at the ceiling, 2000 ppm.</text>\n");
+        say(
+            to,
+            b"<text class='note' x='40' y='92'>No reading at the ceiling, 2000 ppm.</text>\n",
+        );
         return;
     }
     if last == 0 {
-        put(to, b"<rect x='41' y='67' width='1118' height='38' fill='#fff' stroke='#b00020' stroke-width='2'/>\n<text class='alarm' x='56' y='94' style='fill:#b00020'>REACHED CEILING: ", ceiling);
+        put(
+            to,
+            b"<rect x='41' y='67' width='1118' height='38' fill='#fff' stroke='#b00020' stroke-width='2'/>\n<text class='alarm' x='56' y='94' style='fill:#b00020'>REACHED CEILING: ",
+            ceiling,
+        );
         put(to, b" of ", n);
-        say(to, b" readings. There the room may have held far more than 2000 ppm.</text>\n");
+        say(
+            to,
+            b" readings. There the room may have held far more than 2000 ppm.</text>\n",
+        );
         return;
     }
-    say(to, b"<rect x='40' y='66' width='1120' height='40' fill='#b00020'/>\n<text class='alarm' x='56' y='94' style='fill:#fff'>");
+    say(
+        to,
+        b"<rect x='40' y='66' width='1120' height='40' fill='#b00020'/>\n<text class='alarm' x='56' y='94' style='fill:#fff'>",
+    );
     if last < n {
         put(to, b"ENDS AT CEILING: the last ", last);
     } else {
         put(to, b"HELD AT CEILING: ", n);
     }
     put(to, b" of ", n);
-    say(to, b" readings. The room may hold far more than 2000 ppm.</text>\n");
+    say(
+        to,
+        b" readings. The room may hold far more than 2000 ppm.</text>\n",
+    );
 }
 
 // The report, with what each line means.
@@ -149,17 +179,39 @@ fn table(to: i32, n: usize, covers: &[u16], weighed: &[u16], r: Numbers) {
 <text class='report' x='120' y='590'>log<tspan x='200'> ",
         n,
     );
-    put(to, b"</tspan></text>\n<text class='report' x='120' y='612'>normal<tspan x='200'> ", wide(r.k1));
+    put(
+        to,
+        b"</tspan></text>\n<text class='report' x='120' y='612'>normal<tspan x='200'> ",
+        wide(r.k1),
+    );
     put(to, b" ", wide(r.k2));
     put(to, b" ", wide(r.k));
-    say(to, b"</tspan></text>\n<text class='report' x='120' y='634'>covers<tspan x='200'>");
+    say(
+        to,
+        b"</tspan></text>\n<text class='report' x='120' y='634'>covers<tspan x='200'>",
+    );
     strokes::list_some(to, covers);
-    put(to, b"</tspan></text>\n<text class='report' x='120' y='656'>best<tspan x='200'> ", wide(r.best));
+    put(
+        to,
+        b"</tspan></text>\n<text class='report' x='120' y='656'>best<tspan x='200'> ",
+        wide(r.best),
+    );
     put(to, b" ", wide(r.count));
-    say(to, b"</tspan></text>\n<text class='report' x='120' y='678'>weighed<tspan x='200'>");
+    say(
+        to,
+        b"</tspan></text>\n<text class='report' x='120' y='678'>weighed<tspan x='200'>",
+    );
     strokes::list_some(to, weighed);
-    put(to, b"</tspan></text>\n<text class='report' x='120' y='700'>ceiling<tspan x='200'> ", r.ceiling);
-    put(to, b"</tspan></text>\n<text class='report' x='120' y='722'>held<tspan x='200'> ", one_if(r.held));
+    put(
+        to,
+        b"</tspan></text>\n<text class='report' x='120' y='700'>ceiling<tspan x='200'> ",
+        r.ceiling,
+    );
+    put(
+        to,
+        b"</tspan></text>\n<text class='report' x='120' y='722'>held<tspan x='200'> ",
+        one_if(r.held),
+    );
     say(to, b"</tspan></text>\n");
 }
 

@@ -56,8 +56,9 @@ module _ (x : List ℕ) (q p reach : ℕ) (r : Reaches x q p reach) (b : Bool) (
 
     pub still-reaches : Reaches x q (p + 1) reach
     still-reaches = record {
-        most = λ j h s. r .most j (before j (omega arith) s) s;
-        some = ⊎-elim (λ z. inl z) (λ w. inr (w .0, omega (arith, w .1), w .2, w .3)) (r .some) }
+      most = λ j h s. r .most j (before j (omega arith) s) s;
+      some = ⊎-elim (λ z. inl z) (λ w. inr (w .0, omega (arith, w .1), w .2, w .3)) (r .some);
+    }
 
     covered : p < reach → inside eqb x (length x) q p ≡ true
     covered h = ⊎-elim (λ z. absurd (omega arith)) (λ w. start-inside x q p (w .0) (omega (arith, w .1)) (omega (arith, w .3)) (w .2)) (r .some)
@@ -66,8 +67,8 @@ module _ (x : List ℕ) (q p reach : ℕ) (r : Reaches x q p reach) (b : Bool) (
     uncovered h =
         not-passed _
         (λ i.
-            let w = inside-start x q p i in
-            omega (arith, r .most (w .0) (before (w .0) (w .1) (w .3)) (w .3), w .2))
+        let w = inside-start x q p i in
+        omega (arith, r .most (w .0) (before (w .0) (w .1) (w .3)) (w .3), w .2))
 
     pub covered-marked : p < reach → 1 ≡ markOf q x p
     unfolding markOf

@@ -13,16 +13,18 @@ run-none x v p h = record { rises = omega arith; within = h; same = λ k a b. ab
 
 pub run-more : (x : List ℕ) (v p e : ℕ) → Run x v p e → e < length x → getD x e 0 ≡ v → Run x v p (e + 1)
 run-more x v p e r h q = record {
-    rises = omega arith;
-    within = omega arith;
-    same = λ k a b. ⊎-elim (λ (z : k ≡ e). rw z q) (λ (l : k < e). r .same k a l) (eq-or-lt-of-le (omega arith)) }
+  rises = omega arith;
+  within = omega arith;
+  same = λ k a b. ⊎-elim (λ (z : k ≡ e). rw z q) (λ (l : k < e). r .same k a l) (eq-or-lt-of-le (omega arith));
+}
 
 module _ (x : List ℕ) (v p : ℕ) (r : Run x v p (length x)) where
   pub run-back : 0 < p → getD x (p - 1) 0 ≡ v → Run x v (p - 1) (length x)
   run-back h q = record {
-      rises = omega (arith, r .rises);
-      within = omega arith;
-      same = λ k a b. ⊎-elim (λ (z : p - 1 ≡ k). rw (← z) q) (λ (l : p - 1 < k). r .same k (omega arith) b) (eq-or-lt-of-le a) }
+    rises = omega (arith, r .rises);
+    within = omega arith;
+    same = λ k a b. ⊎-elim (λ (z : p - 1 ≡ k). rw (← z) q) (λ (l : p - 1 < k). r .same k (omega arith) b) (eq-or-lt-of-le a);
+  }
 
   pub run-left : 0 < p → (getD x (p - 1) 0 ≡ v → ⊥) → LastRun x v (length x - p)
   run-left h q =

@@ -44,12 +44,21 @@ fn judge(x: &[u8], q: usize, p: usize, reach: usize) -> Marked
     ensures { λ r. ⌜ (r .mark ≡ markOf q (now (x .entry)) p) × Reaches (now (x .entry)) q (p + 1) (r .reach) ⌝ }
 {
     if starts(x, q, p) {
-        return Marked { mark: 2, reach: p + q };
+        return Marked {
+            mark: 2,
+            reach: p + q,
+        };
     }
     if p < reach {
-        return Marked { mark: 1, reach: reach };
+        return Marked {
+            mark: 1,
+            reach: reach,
+        };
     }
-    Marked { mark: 0, reach: reach }
+    Marked {
+        mark: 0,
+        reach: reach,
+    }
 }
 
 // Marks each reading for the pattern of length q: 2 where an occurrence starts, 1 elsewhere inside one, 0 outside.

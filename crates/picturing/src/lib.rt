@@ -42,7 +42,13 @@ fn draw(to: i32, x: &[u8]) {
     let listed = finder::cover_list(x, &mut covers);
     let weighed = finder::weighed_list(x, x.len());
     let lens = weighed.lens;
-    drawing::draw(to, x, front(&covers, listed.used), front(&lens, weighed.used), numbers(x));
+    drawing::draw(
+        to,
+        x,
+        front(&covers, listed.used),
+        front(&lens, weighed.used),
+        numbers(x),
+    );
 }
 
 // Reads a file of at most 4,099 bytes; a byte more makes it one of a wrong size.

@@ -15,7 +15,7 @@ use Rattle.ppm_text.specs.declared.Fault.{Fault}
 use Rattle.ppm_text.specs.declared.Fault.the-variants as fault
 use Rattle.ppm_text.specs.declared.State.{State}
 use Rattle.ppm_line.specs.Lines.{says, saysAfter}
-use Rattle.ppm_text.specs.Texts.{Outcome, symbols, noReading, whole, given, from, fileOf, heard, Room, lineGives, ahead, stopped, isFault, gives, ended, stopAt, headed, EndsLine, EndsText}
+use Rattle.ppm_text.specs.Texts.{Outcome, symbols, noReading, whole, given, from, fileOf, heard, Room, lineGives, ahead, stopped, isFault, gives, ended, stopAt, headed, AtFront, EndsLine, EndsText}
 use Rattle.ppm_text.proofs.Readings.{length-heard, fault-stays, no-fault, no-front}
 
 -- the header
@@ -49,34 +49,54 @@ front-gives : (s : State) (file : List ℕ) → isFault (s .fault) ≡ false →
 unfolding gives stopped ahead lineGives saysAfter says given from
 front-gives s file e q = rw (no-fault (s .fault) e, q)
 
+ended-heard : (s : State) (file : List ℕ) → isFault (s .fault) ≡ false → ended s file ≡ symbols (heard (s .readings) file)
+unfolding ended stopped
+ended-heard s file e = rw (no-fault (s .fault) e)
+
+none-whole : (n : ℕ) (file : List ℕ) → n ≡ 0 → noReading ≡ whole (heard n file)
+unfolding whole heard
+none-whole n file z = rw z
+
+some-whole : (n : ℕ) (file : List ℕ) → Room n file → (n ≡ 0 → ⊥) → symbols (heard n file) ≡ whole (heard n file)
+unfolding whole
+some-whole n file m z =
+    let l : length (heard n file) ≡ n = length-heard n file (m .long) ∙ omega arith in
+    rw (l, ne-eqb n 0 z)
+
 pub wrong-before : (s : State) (file : List ℕ) (f : Bool) → Room (s .readings) file → f ≡ isFault (s .fault) → f ≡ true → EndsText s file s file
 wrong-before s file f m p q = record { room = m; meaning = ended-gives s file (sym p ∙ q); made = λ h. no-front (sym q ∙ p ∙ h) }
 
-module _ (s : State) (file : List ℕ) (f : Bool) (p : f ≡ isFault (s .fault)) (q : f ≡ false) (t : State) (file₁ : List ℕ) (d : EndsLine s file (saysAfter (s .line) []) t file₁) (g : Bool) (u : g ≡ isFault (t .fault)) where
+module _ (s : State) (file : List ℕ) (d : AtFront s file) (f : Bool) (p : f ≡ isFault (s .fault)) (q : f ≡ false) where
+  all-heard : whole (heard (s .readings) file) ≡ gives s file []
+  all-heard = sym (front-gives s file (sym p ∙ q) (d .front (sym p ∙ q)))
+
+  pub none-heard : (r : State) → s .readings ≡ 0 → r ≡ stopAt s fault.Empty → EndsText s file r file
+  unfolding ended stopped
+  none-heard r z e = record {
+    room = rw e (d .room);
+    meaning = rw e (none-whole (s .readings) file z ∙ all-heard);
+    made = λ h. no-front (rw e at h);
+  }
+
+  header-put : (s .readings ≡ 0 → ⊥) → EndsText s file s (headed (s .readings) file)
+  header-put z = record {
+    room = record { few = d .room .few; long = simp length-set (d .room .long) };
+    meaning =
+        ended-heard s (headed (s .readings) file) (sym p ∙ q)
+        ∙ ap symbols (heard-headed (s .readings) (s .readings) file)
+        ∙ some-whole (s .readings) file (d .room) z
+        ∙ all-heard;
+    made = λ h. file-headed (s .readings) file (d .room);
+  }
+
+  pub some-heard : (file′ : List ℕ) → (s .readings ≡ 0 → ⊥) → file′ ≡ headed (s .readings) file → EndsText s file s file′
+  some-heard file′ z e = rw e (header-put z)
+
+-- the last line ends, and then the text
+module _ (s : State) (file : List ℕ) (f : Bool) (p : f ≡ isFault (s .fault)) (q : f ≡ false) (t : State) (file₁ : List ℕ) (d : EndsLine s file (saysAfter (s .line) []) t file₁) where
   last-line : gives t file₁ [] ≡ gives s file []
   unfolding gives stopped ahead
   last-line = d .meaning [] ∙ rw (no-fault (s .fault) (sym p ∙ q))
 
-  pub wrong-at-last : g ≡ true → EndsText s file t file₁
-  wrong-at-last v = record { room = d .room; meaning = ended-gives t file₁ (sym u ∙ v) ∙ last-line; made = λ h. no-front (sym v ∙ u ∙ h) }
-
-  module _ (v : g ≡ false) where
-    all-heard : whole (heard (t .readings) file₁) ≡ gives s file []
-    all-heard = sym (front-gives t file₁ (sym u ∙ v) (d .front (sym u ∙ v))) ∙ last-line
-
-    pub none-heard : (r : State) → t .readings ≡ 0 → r ≡ stopAt t fault.Empty → EndsText s file r file₁
-    unfolding ended stopped whole heard
-    none-heard r z e = record { room = rw e (d .room); meaning = rw e (rw z at all-heard); made = λ h. no-front (rw e at h) }
-
-    header-put : (t .readings ≡ 0 → ⊥) → EndsText s file t (headed (t .readings) file₁)
-    unfolding ended stopped whole
-    header-put z =
-        let l : length (heard (t .readings) file₁) ≡ t .readings = length-heard (t .readings) file₁ (d .room .long) ∙ omega arith in
-        record {
-          room = record { few = d .room .few; long = simp length-set (d .room .long) };
-          meaning = rw (no-fault (t .fault) (sym u ∙ v), heard-headed) (rw (l, ne-eqb (t .readings) 0 z) at all-heard);
-          made = λ h. file-headed (t .readings) file₁ (d .room);
-        }
-
-    pub some-heard : (file₂ : List ℕ) → (t .readings ≡ 0 → ⊥) → file₂ ≡ headed (t .readings) file₁ → EndsText s file t file₂
-    some-heard file₂ z e = rw e (header-put z)
+  pub then-ends : (r : State) (file₂ : List ℕ) → EndsText t file₁ r file₂ → EndsText s file r file₂
+  then-ends r file₂ e = record { room = e .room; meaning = e .meaning ∙ last-line; made = e .made }

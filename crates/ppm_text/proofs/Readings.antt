@@ -1,5 +1,5 @@
 -- The readings of a text, line by line: what is left to give stays the same. Each premise stands as the code's tests give it. Assumes nothing.
-use mathlib.Core.Bool.{Bool, true, false, cond}
+use mathlib.Core.Bool.{Bool, true, false, cond, true≢false}
 use mathlib.Core.Path.{_≡_, refl, sym, ap, _∙_}
 use mathlib.Core.List.{List, [], _∷_, _++_, append-assoc}
 use Prim.Native.Nat.{ℕ, zero, suc, _+_, _-_, _≤_, _<_, min}
@@ -18,7 +18,7 @@ use Rattle.ppm_text.specs.declared.Fault.{Fault}
 use Rattle.ppm_text.specs.declared.Fault.the-variants as fault
 use Rattle.ppm_text.specs.declared.State.{State}
 use Rattle.ppm_line.specs.Lines.{symbolOf, says, saysAfter}
-use Rattle.ppm_text.specs.Texts.{Outcome, lineEnd, joined, lines, nextNumber, whole, given, from, heard, Room, lineGives, ahead, stopped, isFault, gives, stopAt, lineAfter, EndsLine, Takes}
+use Rattle.ppm_text.specs.Texts.{Outcome, lineEnd, joined, lines, nextNumber, whole, given, from, heard, Room, lineGives, ahead, stopped, isFault, gives, stopAt, lineAfter, AtFront, EndsLine, Takes}
 
 -- the symbols heard, with one more
 module _ (n : ℕ) (file : List ℕ) (l : length file ≡ 3 + longest) where
@@ -37,39 +37,48 @@ blank-ahead s n file [] = refl
 blank-ahead s n file (x ∷ xs) = refl
 
 pub no-front : {A : Type 0} → true ≡ false → A
-no-front e = absurd (let z : _≡_ {A = ℕ} 0 1 = cc in omega arith)
+no-front e = absurd (true≢false e)
+
+-- the states that the code makes are at the front of a line, or stopped
+module _ (s r : State) (file : List ℕ) where
+  new-front : (n : ℕ) → Room n file → r ≡ lineAfter s n → AtFront r file
+  new-front n m q = rw q record { room = m; front = λ h. refl }
+
+  no-more : (f : Fault) → isFault f ≡ true → Room (s .readings) file → r ≡ stopAt s f → AtFront r file
+  no-more f t m q = rw q record { room = m; front = λ h. no-front (sym t ∙ h) }
 
 -- a line ends
 module _ (s : State) (file : List ℕ) (w : Said) (r : State) (m : Room (s .readings) file) where
   pub nothing-said : w ≡ said.Nothing → r ≡ lineAfter s (s .readings) → EndsLine s file w r file
   unfolding lineGives given
-  nothing-said e q = record { room = rw q m; meaning = λ xs. rw (q, e) (blank-ahead s (s .readings) file xs); front = λ h. rw q }
+  nothing-said e q = record {
+    after = new-front s r file (s .readings) m q;
+    meaning = λ xs. rw (q, e) (blank-ahead s (s .readings) file xs);
+  }
 
   pub no-number-said : w ≡ said.NoNumber → r ≡ stopAt s fault.NoNumber → EndsLine s file w r file
   unfolding lineGives given gives stopped
-  no-number-said e q = record { room = rw q m; meaning = λ xs. rw (q, e); front = λ h. no-front (rw q at h) }
+  no-number-said e q = record { after = no-more s r file fault.NoNumber refl m q; meaning = λ xs. rw (q, e) }
 
   pub long-number-said : w ≡ said.LongNumber → r ≡ stopAt s fault.LongNumber → EndsLine s file w r file
   unfolding lineGives given gives stopped
-  long-number-said e q = record { room = rw q m; meaning = λ xs. rw (q, e); front = λ h. no-front (rw q at h) }
+  long-number-said e q = record { after = no-more s r file fault.LongNumber refl m q; meaning = λ xs. rw (q, e) }
 
 module _ (s : State) (file : List ℕ) (ppm : ℕ) (r : State) (m : Room (s .readings) file) where
   pub reading-said : (v : ℕ) → s .readings < longest → v ≡ symbolOf ppm → r ≡ lineAfter s (s .readings + 1) → EndsLine s file (said.Reading ppm) r (set file (3 + s .readings) v)
   unfolding lineGives given
   reading-said v h e q = record {
-    room = rw q record { few = omega arith; long = length-set file (3 + s .readings) v ∙ m .long };
+    after = new-front s r (set file (3 + s .readings) v) (s .readings + 1) record { few = omega arith; long = length-set file (3 + s .readings) v ∙ m .long } q;
     meaning = λ xs.
         rw (q, length-heard (s .readings) file (m .long), lt-ltb (min (s .readings) longest) longest (omega arith))
         (blank-ahead s (s .readings + 1) (set file (3 + s .readings) v) xs ∙ rw (heard-more (s .readings) file (m .long) v h, e));
-    front = λ k. rw q;
   }
 
   pub too-many-said : longest ≤ s .readings → r ≡ stopAt s fault.Many → EndsLine s file (said.Reading ppm) r file
   unfolding lineGives given gives stopped
   too-many-said h q = record {
-    room = rw q m;
+    after = no-more s r file fault.Many refl m q;
     meaning = λ xs. rw (q, length-heard (s .readings) file (m .long), le-ltb (min (s .readings) longest) longest (omega arith));
-    front = λ k. no-front (rw q at k);
   }
 
 pub so-said : (s : State) (file : List ℕ) (v w : Said) (r : State) (file′ : List ℕ) → EndsLine s file v r file′ → w ≡ v → EndsLine s file w r file′
@@ -112,7 +121,7 @@ module _ (s : State) (file : List ℕ) (b : ℕ) (f : Bool) (p : f ≡ isFault (
 
   pub line-end : (r : State) (file′ : List ℕ) → f ≡ false → b ≡ lineEnd → EndsLine s file (saysAfter (s .line) []) r file′ → Takes (b ∷ []) s file r file′
   unfolding lines
-  line-end r file′ q e d = record { room = d .room; meaning = λ t. rw (eq-eqb b lineEnd e) (d .meaning (lines t) ∙ ended-line q (lines t)) }
+  line-end r file′ q e d = record { room = d .after .room; meaning = λ t. rw (eq-eqb b lineEnd e) (d .meaning (lines t) ∙ ended-line q (lines t)) }
 
 pub byte-inside : (s : State) (file : List ℕ) (b : ℕ) (l : Line) → Room (s .readings) file → (b ≡ lineEnd → ⊥)
     → ((t : List ℕ) → saysAfter l t ≡ saysAfter (s .line) (b ∷ t)) → Takes (b ∷ []) s file (withLine s l) file

@@ -117,13 +117,17 @@ lineAfter s n = record { line = Blank; number = nextNumber (s .number); readings
 abbrev pub headed : ℕ → List ℕ → List ℕ
 headed n file = set (set (set file 0 1) 1 (n / 256)) 2 (n % 256)
 
+-- where nothing is wrong, the state is at the front of a line
+pub record AtFront (s : State) (file : List ℕ) : Type 0 where
+  pub room : Room (s .readings) file
+  pub front : isFault (s .fault) ≡ false → s .line ≡ Blank
+
 -- What a piece of code does to a state s and its file, which become r and file′
 
--- it ends the state's line, which says w; where nothing is wrong a new line begins
+-- it ends the state's line, which says w
 pub record EndsLine (s : State) (file : List ℕ) (w : Said) (r : State) (file′ : List ℕ) : Type 0 where
-  pub room : Room (r .readings) file′
+  pub after : AtFront r file′
   pub meaning : (xs : List (List ℕ)) → gives r file′ xs ≡ lineGives s file w xs
-  pub front : isFault (r .fault) ≡ false → r .line ≡ Blank
 
 -- it takes this piece of the text
 pub record Takes (piece : List ℕ) (s : State) (file : List ℕ) (r : State) (file′ : List ℕ) : Type 0 where

@@ -2,7 +2,7 @@
 ghost use mathlib.Core.Path.{_≡_};
 ghost use mathlib.Core.List.{[], _∷_};
 ghost use Rattle.ppm_line.specs.Lines.{saysAfter};
-ghost use Rattle.ppm_text.specs.Texts.{nextNumber, Room, isFault, startState, stopAt, lineAfter, EndsLine, Takes, EndsText, headed};
+ghost use Rattle.ppm_text.specs.Texts.{nextNumber, Room, isFault, startState, stopAt, lineAfter, EndsLine, Takes, AtFront, EndsText, headed};
 use ppm_line::Line;
 use ppm_line::Said;
 
@@ -149,6 +149,23 @@ fn put_header(n: usize, file: &mut [u8])
     file[2] = (n % 256) as u8;
 }
 
+// The text ends at the front of a line.
+fn close(s: State, file: &mut [u8]) -> State
+    requires { ⌜ AtFront s (now file) ⌝ }
+    ensures { λ r. ⌜ EndsText s (now (file .entry)) r (now (file .exit)) ⌝ }
+{
+    let fault = s.fault;
+    if is_fault(fault) {
+        return s;
+    }
+    let n = s.readings;
+    if n == 0 {
+        return stop(s, Fault::Empty);
+    }
+    put_header(n, file);
+    s
+}
+
 // The text ends, and with it its last line.
 pub fn end_text(s: State, file: &mut [u8]) -> State
     requires { ⌜ Room (s .readings) (now file) ⌝ }
@@ -159,14 +176,5 @@ pub fn end_text(s: State, file: &mut [u8]) -> State
         return s;
     }
     let t = end_line(s, file);
-    let found = t.fault;
-    if is_fault(found) {
-        return t;
-    }
-    let n = t.readings;
-    if n == 0 {
-        return stop(t, Fault::Empty);
-    }
-    put_header(n, file);
-    t
+    close(t, file)
 }

@@ -110,7 +110,14 @@ fn occurrence(to: i32, marks: &[u8], q: usize, p: usize, lane: usize) -> usize
         return lane;
     }
     let top = 34000 + lane % 2 * 1400;
-    enclose(to, p, std::num::wrapping_add_usize(p, q), marks.len(), top, top + 1200);
+    enclose(
+        to,
+        p,
+        std::num::wrapping_add_usize(p, q),
+        marks.len(),
+        top,
+        top + 1200,
+    );
     1 - lane % 2
 }
 
