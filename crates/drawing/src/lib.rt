@@ -1,4 +1,4 @@
-// A log as a picture: SVG of a fixed size, whatever the log's length.
+// Floor 4: a log as a picture, in SVG of a fixed size, whatever the log's length.
 ghost use Prim.Native.Nat.{_<_};
 ghost use lib.ListN.{length};
 use strokes::put;

@@ -1,13 +1,12 @@
 -- Reading by reading: the loop that looks for an occurrence. Each premise stands as the code's tests give it. Assumes nothing.
-use mathlib.Core.Bool.{Bool, true, false, _&&_}
-use mathlib.Core.Path.{_≡_, refl, sym, _∙_}
+use mathlib.Core.Bool.{Bool, true, false}
+use mathlib.Core.Path.{_≡_, sym}
 use mathlib.Core.List.{List}
-use Prim.Native.Nat.{ℕ, suc, _+_, _-_, _≤_, _<_}
+use Prim.Native.Nat.{ℕ, _+_, _-_, _≤_, _<_}
 use native.Mathlib.Omega.{arith}
-use lib.Dec.{eqb, leb}
+use lib.Dec.{eqb}
 use lib.ListN.{length, getD}
 use borrow.Author.Tests.{eq-eqb, ne-eqb, lt-leb, le-leb}
-use Rattle.words.specs.Search.{all}
 use Rattle.words.specs.Words.{occurs}
 use Rattle.words.proofs.Search.{all-none, all-more, all-fails}
 use Rattle.marks.specs.Marks.{starts}

@@ -1,5 +1,5 @@
 -- How far the occurrences reach, and the marks that follow from it. Each premise stands as the code's tests give it. Assumes nothing.
-use mathlib.Core.Bool.{Bool, true, false, cond, _&&_, true≢false}
+use mathlib.Core.Bool.{Bool, true, false, true≢false}
 use mathlib.Core.Path.{_≡_, refl, sym, _∙_}
 use mathlib.Core.List.{List}
 use mathlib.Core.Logic.{_⊎_, inl, inr, ⊎-elim}
@@ -8,7 +8,7 @@ use native.Mathlib.Omega.{arith}
 use native.Mathlib.Nat.{eq-or-lt-of-le}
 use lib.Dec.{eqb, leb, ltb}
 use lib.ListN.{length}
-use borrow.Author.Tests.{lt-ltb, ltb-true, leb-true, le-leb}
+use borrow.Author.Tests.{lt-ltb, ltb-true, leb-true}
 use Rattle.words.specs.Words.{occurs, inside}
 use Rattle.words.proofs.Tests.{not-passed, and-left, and-right, and-both, and3}
 use Rattle.words.proofs.Search.{any-some, some-any}

@@ -1,4 +1,4 @@
-// How a pattern lies in a log, for a picture of it.
+// Floor 2: how a pattern lies in a log, and runs of one symbol: what a picture shows.
 ghost use mathlib.Core.Path.{_≡_};
 ghost use Prim.Native.Nat.{_+_, _≤_, _<_};
 ghost use lib.Dec.{eqb};

@@ -1,4 +1,4 @@
-// The picture of a plant's file.
+// Floor 4: from a plant's file to its picture.
 
 // The used entries of a list.
 fn front(t: &[u16], used: u16) -> &[u16] {

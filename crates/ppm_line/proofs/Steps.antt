@@ -1,16 +1,14 @@
 -- One byte of a line after the other: what is left to say stays the same. Each premise stands as the code's tests give it. Assumes nothing.
-use mathlib.Core.Bool.{Bool, true, false, cond, _&&_}
-use mathlib.Core.Path.{_≡_, refl, sym, _∙_}
-use mathlib.Core.List.{List, [], _∷_}
-use Prim.Native.Nat.{ℕ, _≤_, _<_}
-use native.Mathlib.Omega.{arith}
-use lib.Dec.{eqb, leb}
-use borrow.Author.Tests.{eq-eqb, ne-eqb, lt-leb, leb-true}
+use mathlib.Core.Bool.{Bool, true, false}
+use mathlib.Core.Path.{_≡_}
+use mathlib.Core.List.{List, _∷_}
+use Prim.Native.Nat.{ℕ, _≤_}
+use borrow.Author.Tests.{eq-eqb, ne-eqb, leb-true}
 use Rattle.words.proofs.Tests.{and-left}
 use Rattle.ppm_line.specs.declared.Number.{Number}
 use Rattle.ppm_line.specs.declared.Line.{Line}
 use Rattle.ppm_line.specs.declared.Line.the-variants.{Blank, Remark, Digits, Spaced, Other}
-use Rattle.ppm_line.specs.Lines.{blank, digit, mark, blanks, noDigits, longer, ofNumber, afterNumber, afterDigits, says, saysAfter}
+use Rattle.ppm_line.specs.Lines.{blank, digit, mark, blanks, noDigits, longer, afterNumber, afterDigits, says, saysAfter}
 
 pub digit-from : (b : ℕ) → digit b ≡ true → 48 ≤ b
 unfolding digit

@@ -61,3 +61,12 @@ saysAfter Remark t = Nothing
 saysAfter (Digits n) t = afterDigits n t
 saysAfter (Spaced n) t = afterNumber n t
 saysAfter Other t = NoNumber
+
+-- For the laws that say in plain words what a line says: nothing but digits, and the number that they spell after v
+unfoldable pub digits : List ℕ → Bool
+digits [] = true
+digits (b ∷ t) = digit b && digits t
+
+unfoldable pub spelt : ℕ → List ℕ → ℕ
+spelt v [] = v
+spelt v (b ∷ t) = spelt (v * 10 + (b - 48)) t

@@ -1,8 +1,8 @@
-// What one line says: a reading, nothing, or what is wrong with it.
+// Floor 2: what one line of a text of readings says.
 ghost use mathlib.Core.Bool.{true};
 ghost use mathlib.Core.Path.{_≡_};
 ghost use mathlib.Core.List.{List, [], _∷_};
-ghost use Prim.Native.Nat.{ℕ, _≤_, _<_, _+_, _/_, min};
+ghost use Prim.Native.Nat.{ℕ, _+_, min};
 ghost use Rattle.ppm_line.specs.Lines.{symbolOf, blank, digit, noDigits, longer, ofNumber, afterNumber, afterDigits, says, saysAfter};
 
 // The digits of a line's number: how many, counted to seven, and the value of the last six.

@@ -1,4 +1,4 @@
-// Readings in whole ppm, one a line, to the plant's file.
+// Floor 4: from a text of readings in whole ppm, one a line, to the plant's file.
 ghost use Rattle.ppm_text.specs.Texts.{Room, After, Made, Holds};
 use ppm_text::Fault;
 use ppm_text::State;

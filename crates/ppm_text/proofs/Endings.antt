@@ -1,21 +1,17 @@
 -- The end of a text and its file. Each premise stands as the code's tests give it. Assumes nothing.
-use mathlib.Core.Bool.{Bool, true, false, cond}
-use mathlib.Core.Path.{_≡_, refl, sym, ap, _∙_}
-use mathlib.Core.List.{List, [], _∷_, _++_}
-use Prim.Native.Nat.{ℕ, zero, suc, _+_, _-_, _/_, _%_, _≤_, _<_, min}
+use mathlib.Core.Bool.{Bool, true, false}
+use mathlib.Core.Path.{_≡_, sym, ap, _∙_}
+use mathlib.Core.List.{List, [], _∷_}
+use Prim.Native.Nat.{ℕ, suc, _+_, _-_, _/_, _%_, _≤_}
 use native.Mathlib.Omega.{arith}
-use lib.Dec.{eqb, ltb}
-use lib.ListN.{length, getD, take, drop, set, length-set}
+use lib.ListN.{length, take, set, length-set}
 use lib.Seq.{drop-set-lt}
-use borrow.Author.Tests.{eq-eqb, ne-eqb}
-use Rattle.words.specs.Refusals.{longest}
-use Rattle.ppm_line.specs.declared.Line.{Line}
+use borrow.Author.Tests.{ne-eqb}
 use Rattle.ppm_line.specs.declared.Line.the-variants.{Blank}
-use Rattle.ppm_text.specs.declared.Fault.{Fault}
 use Rattle.ppm_text.specs.declared.Fault.the-variants as fault
 use Rattle.ppm_text.specs.declared.State.{State}
 use Rattle.ppm_line.specs.Lines.{says, saysAfter}
-use Rattle.ppm_text.specs.Texts.{Outcome, symbols, noReading, whole, given, from, fileOf, heard, Room, lineGives, ahead, stopped, isFault, gives, ended, stopAt, headed, AtFront, EndsLine, EndsText}
+use Rattle.ppm_text.specs.Texts.{symbols, noReading, whole, given, from, fileOf, heard, Room, lineGives, ahead, stopped, isFault, gives, ended, stopAt, headed, AtFront, EndsLine, EndsText}
 use Rattle.ppm_text.proofs.Readings.{length-heard, fault-stays, no-fault, no-front}
 
 -- the header

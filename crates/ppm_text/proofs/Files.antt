@@ -1,24 +1,24 @@
 -- A text that came in pieces, and the file that is made of it. Assumes nothing.
-use mathlib.Core.Bool.{Bool, true, false, cond, not, _||_}
-use mathlib.Core.Path.{_≡_, refl, sym, ap, _∙_}
+use mathlib.Core.Bool.{Bool, false}
+use mathlib.Core.Path.{_≡_, refl, sym, _∙_}
 use mathlib.Core.List.{List, [], _∷_, _++_, append-assoc, append-nil}
-use Prim.Native.Nat.{ℕ, zero, suc, _+_, _-_, _*_, _/_, _%_, _≤_, _<_, min}
+use Prim.Native.Nat.{ℕ, suc, _+_, _-_, _≤_, _<_}
 use native.Mathlib.Omega.{arith}
 use native.Mathlib.Nat.{div-add-mod'}
 use lib.Dec.{eqb, ltb}
-use lib.ListN.{length, getD, take, length-append, List·getD-append}
+use lib.ListN.{length, getD, length-append, List·getD-append}
 use lib.Seq.{getD-append-seam, length-take-le}
-use borrow.Author.Tests.{ltb-true, ltb-false, eqb-false, eq-eqb, ne-eqb, le-ltb, lt-ltb}
+use borrow.Author.Tests.{ltb-true, ltb-false, eqb-false, eq-eqb, ne-eqb, le-ltb}
 use Rattle.words.specs.Search.{any}
 use Rattle.words.specs.Refusals.{longest, firstNo}
-use Rattle.words.specs.PlantFile.{ceilingSymbol, fieldOf, unknown, fileNo}
+use Rattle.words.specs.PlantFile.{ceilingSymbol, fieldOf, fileNo}
 use Rattle.words.proofs.Tests.{by-test}
 use Rattle.words.proofs.Search.{any-none}
 use Rattle.ppm_line.specs.declared.Said.{Said}
 use Rattle.ppm_line.specs.declared.Said.the-variants as said
 use Rattle.ppm_text.specs.declared.State.{State}
 use Rattle.ppm_line.specs.Lines.{symbolOf, says, saysAfter}
-use Rattle.ppm_text.specs.Texts.{Outcome, symbols, wrong, noReading, lines, nextNumber, whole, given, from, outcome, fileOf, heard, Room, lineGives, ahead, stopped, isFault, gives, ended, startState, Takes, EndsText, After, Made, Holds}
+use Rattle.ppm_text.specs.Texts.{Outcome, symbols, noReading, lines, nextNumber, whole, given, from, outcome, fileOf, heard, Room, lineGives, ahead, stopped, isFault, gives, ended, startState, Takes, EndsText, After, Holds}
 use Rattle.ppm_text.proofs.Readings.{no-fault}
 
 -- Pieces

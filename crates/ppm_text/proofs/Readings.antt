@@ -1,24 +1,22 @@
 -- The readings of a text, line by line: what is left to give stays the same. Each premise stands as the code's tests give it. Assumes nothing.
-use mathlib.Core.Bool.{Bool, true, false, cond, true≢false}
-use mathlib.Core.Path.{_≡_, refl, sym, ap, _∙_}
+use mathlib.Core.Bool.{Bool, true, false, true≢false}
+use mathlib.Core.Path.{_≡_, refl, sym, _∙_}
 use mathlib.Core.List.{List, [], _∷_, _++_, append-assoc}
-use Prim.Native.Nat.{ℕ, zero, suc, _+_, _-_, _≤_, _<_, min}
+use Prim.Native.Nat.{ℕ, _+_, _-_, _≤_, _<_, min}
 use native.Mathlib.Omega.{arith}
 use native.Mathlib.Numerals.{add-one}
-use lib.Dec.{eqb, ltb}
 use lib.ListN.{length, getD, take, drop, set, length-take, length-drop, length-set}
 use lib.Seq.{take-suc-set, drop-set-add, take-suc, take-all}
 use borrow.Author.Tests.{lt-ltb, le-ltb, eq-eqb, ne-eqb}
 use Rattle.words.specs.Refusals.{longest}
 use Rattle.ppm_line.specs.declared.Line.{Line}
-use Rattle.ppm_line.specs.declared.Line.the-variants.{Blank}
 use Rattle.ppm_line.specs.declared.Said.{Said}
 use Rattle.ppm_line.specs.declared.Said.the-variants as said
 use Rattle.ppm_text.specs.declared.Fault.{Fault}
 use Rattle.ppm_text.specs.declared.Fault.the-variants as fault
 use Rattle.ppm_text.specs.declared.State.{State}
 use Rattle.ppm_line.specs.Lines.{symbolOf, says, saysAfter}
-use Rattle.ppm_text.specs.Texts.{Outcome, lineEnd, joined, lines, nextNumber, whole, given, from, heard, Room, lineGives, ahead, stopped, isFault, gives, stopAt, lineAfter, AtFront, EndsLine, Takes}
+use Rattle.ppm_text.specs.Texts.{Outcome, lineEnd, joined, lines, nextNumber, given, from, heard, Room, lineGives, ahead, stopped, isFault, gives, stopAt, lineAfter, AtFront, EndsLine, Takes}
 
 -- the symbols heard, with one more
 module _ (n : ℕ) (file : List ℕ) (l : length file ≡ 3 + longest) where

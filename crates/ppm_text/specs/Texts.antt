@@ -8,7 +8,6 @@ use lib.ListN.{length, take, drop, set}
 use Rattle.words.specs.Refusals.{longest}
 use Rattle.words.specs.PlantFile.{fileNo}
 use Rattle.io.specs.Counts.{Counts}
-use Rattle.ppm_line.specs.declared.Line.{Line}
 use Rattle.ppm_line.specs.declared.Line.the-variants.{Blank}
 use Rattle.ppm_line.specs.declared.Said.{Said}
 use Rattle.ppm_line.specs.declared.Said.the-variants as said

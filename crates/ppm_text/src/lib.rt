@@ -1,4 +1,4 @@
-// A text of readings, taken byte by byte, and the plant's file that is made of it.
+// Floor 3: a text of readings, taken byte by byte, and the plant's file that is made of it.
 ghost use mathlib.Core.Path.{_≡_};
 ghost use mathlib.Core.List.{[], _∷_};
 ghost use Rattle.ppm_line.specs.Lines.{saysAfter};

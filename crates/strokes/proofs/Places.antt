@@ -1,6 +1,5 @@
 -- A place lies within the plot. Assumes nothing.
 use Prim.Native.Nat.{ℕ, _*_, _/_, _≤_, _<_}
-use native.Mathlib.Omega.{arith}
 use native.Mathlib.Nat.{div-le-of-le-mul, mul-le-mul-right, le-of-lt}
 
 pub part-of-width : (k n w : ℕ) → k < n → k * w / n ≤ w

@@ -1,4 +1,4 @@
-// The strokes of a log's picture, written as the data of SVG paths.
+// Floor 4: the strokes of a log's picture, written as the data of SVG paths.
 //
 // Places are whole numbers, in hundredths of a pixel from the upper left corner of the plot.
 // The plot is 100000 wide, one reading beside the other, and 33000 high: 1500 for each hundred ppm, up to 2200 ppm.
