@@ -1,5 +1,6 @@
 // Floor 4: from a text of readings in whole ppm, one a line, to the plant's file.
-ghost use Rattle.ppm_text.specs.Texts.{Room, After, Made, Holds};
+ghost use Rattle.ppm_text.specs.Texts.{Made};
+ghost use Rattle.ppm_text.specs.States.{Room, After, Holds};
 use ppm_text::Fault;
 use ppm_text::State;
 

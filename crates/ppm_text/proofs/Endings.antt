@@ -11,7 +11,8 @@ use Rattle.ppm_line.specs.declared.Line.the-variants.{Blank}
 use Rattle.ppm_text.specs.declared.Fault.the-variants as fault
 use Rattle.ppm_text.specs.declared.State.{State}
 use Rattle.ppm_line.specs.Lines.{says, saysAfter}
-use Rattle.ppm_text.specs.Texts.{symbols, noReading, whole, given, from, fileOf, heard, Room, lineGives, ahead, stopped, isFault, gives, ended, stopAt, headed, AtFront, EndsLine, EndsText}
+use Rattle.ppm_text.specs.Texts.{symbols, noReading, whole, given, from, fileOf}
+use Rattle.ppm_text.specs.States.{heard, Room, lineGives, ahead, stopped, isFault, gives, ended, stopAt, headed, AtFront, EndsLine, EndsText}
 use Rattle.ppm_text.proofs.Readings.{length-heard, fault-stays, no-fault, no-front}
 
 -- the header

@@ -18,7 +18,8 @@ use Rattle.ppm_line.specs.declared.Said.{Said}
 use Rattle.ppm_line.specs.declared.Said.the-variants as said
 use Rattle.ppm_text.specs.declared.State.{State}
 use Rattle.ppm_line.specs.Lines.{symbolOf, says, saysAfter}
-use Rattle.ppm_text.specs.Texts.{Outcome, symbols, noReading, lines, nextNumber, whole, given, from, outcome, fileOf, heard, Room, lineGives, ahead, stopped, isFault, gives, ended, startState, Takes, EndsText, After, Holds}
+use Rattle.ppm_text.specs.Texts.{Outcome, symbols, noReading, lines, nextNumber, whole, given, from, outcome, fileOf}
+use Rattle.ppm_text.specs.States.{heard, Room, lineGives, ahead, stopped, isFault, gives, ended, startState, Takes, EndsText, After, Holds}
 use Rattle.ppm_text.proofs.Readings.{no-fault}
 
 -- Pieces

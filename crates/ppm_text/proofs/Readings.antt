@@ -16,7 +16,8 @@ use Rattle.ppm_text.specs.declared.Fault.{Fault}
 use Rattle.ppm_text.specs.declared.Fault.the-variants as fault
 use Rattle.ppm_text.specs.declared.State.{State}
 use Rattle.ppm_line.specs.Lines.{symbolOf, says, saysAfter}
-use Rattle.ppm_text.specs.Texts.{Outcome, lineEnd, joined, lines, nextNumber, given, from, heard, Room, lineGives, ahead, stopped, isFault, gives, stopAt, lineAfter, AtFront, EndsLine, Takes}
+use Rattle.ppm_text.specs.Texts.{Outcome, lineEnd, joined, lines, nextNumber, given, from}
+use Rattle.ppm_text.specs.States.{heard, Room, lineGives, ahead, stopped, isFault, gives, stopAt, lineAfter, AtFront, EndsLine, Takes}
 
 -- the symbols heard, with one more
 module _ (n : ℕ) (file : List ℕ) (l : length file ≡ 3 + longest) where

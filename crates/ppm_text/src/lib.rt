@@ -1,8 +1,9 @@
-// Floor 3: a text of readings, taken byte by byte, and the plant's file that is made of it.
+// Floor 2: a text of readings, taken byte by byte, and the plant's file that is made of it.
 ghost use mathlib.Core.Path.{_≡_};
 ghost use mathlib.Core.List.{[], _∷_};
 ghost use Rattle.ppm_line.specs.Lines.{saysAfter};
-ghost use Rattle.ppm_text.specs.Texts.{nextNumber, Room, isFault, startState, stopAt, lineAfter, EndsLine, Takes, AtFront, EndsText, headed};
+ghost use Rattle.ppm_text.specs.Texts.{nextNumber};
+ghost use Rattle.ppm_text.specs.States.{Room, isFault, startState, stopAt, lineAfter, EndsLine, Takes, AtFront, EndsText, headed};
 use ppm_line::Line;
 use ppm_line::Said;
 

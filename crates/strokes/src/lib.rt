@@ -109,15 +109,9 @@ fn occurrence(to: i32, marks: &[u8], q: usize, p: usize, lane: usize) -> usize
     if marks[p] != 2 {
         return lane;
     }
+    let end = std::num::wrapping_add_usize(p, q);
     let top = 34000 + lane % 2 * 1400;
-    enclose(
-        to,
-        p,
-        std::num::wrapping_add_usize(p, q),
-        marks.len(),
-        top,
-        top + 1200,
-    );
+    enclose(to, p, end, marks.len(), top, top + 1200);
     1 - lane % 2
 }
 

@@ -1,6 +1,6 @@
 -- `ppm_lines::read_text` meets its contract. The loop's invariant is `After`, its measure the turns left. Assumes nothing.
 use borrow.Author.Needs.{needs}
-use Rattle.ppm_text.specs.Texts.{After}
+use Rattle.ppm_text.specs.States.{After}
 use Rattle.ppm_text.proofs.Files.{at-start}
 use Rattle.ppm_lines.proofs.read_text.Statement.{statement}
 use Rattle.ppm_lines.proofs.read_text.Tie as tie

@@ -2,7 +2,7 @@
 use Prim.Native.Nat.{_-_}
 use borrow.Author.Needs.{needs}
 use lib.ListN.{length, take}
-use Rattle.ppm_text.specs.Texts.{Takes}
+use Rattle.ppm_text.specs.States.{Takes}
 use Rattle.ppm_text.proofs.Readings.{none-taken, more-taken, all-taken}
 use Rattle.ppm_text.proofs.feed.Statement.{statement}
 use Rattle.ppm_text.proofs.feed.Tie as tie
