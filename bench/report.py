@@ -1,4 +1,4 @@
-"""Turns what was measured into Markdown tables and a plot: report.py COUNTS TIMES BUILT FILE.md"""
+"""Turns what was measured into Markdown tables and a plot: report.py COUNTS TIMES STACK BUILT FILE.md"""
 import math
 import re
 import sys
@@ -42,7 +42,13 @@ def table(kinds, sizes, cell):
     return "\n".join(lines)
 
 
-def markdown(counts, times, built, plot):
+def stack_table(path):
+    """A line a call, its name and its bytes."""
+    rows = (line.split() for line in path.read_text().splitlines())
+    return "\n".join(["| call | bytes |", "|---|---:|"] + [f"| {call} | {int(size):,} |" for call, size in rows])
+
+
+def markdown(counts, times, stack, built, plot):
     def proved(call, kind, n):
         cost = counts("proved", call, kind, n)
         return f"{cost:.1f} ({cost / counts('c', call, kind, n):.2f})"
@@ -67,6 +73,10 @@ Instructions a reading of plain C / plain Rust:
 Nanoseconds a reading, the median of many calls: proved / plain C / plain Rust:
 
 {table(times.kinds, times.sizes[-1:], time)}
+
+Bytes of stack that a call takes beyond an empty one:
+
+{stack}
 
 ![Instructions a reading against the log's length]({plot})
 {CLOSE}"""
@@ -143,12 +153,12 @@ def svg(counts):
 """
 
 
-def main(counts, times, built, report):
+def main(counts, times, stack, built, report):
     counts, times, report = read_counts(Path(counts)), read_times(Path(times)), Path(report)
     plot = report.with_suffix(".svg")
     plot.write_text(svg(counts))
     old = report.read_text() if report.exists() else ""
-    report.write_text(between_markers(old, markdown(counts, times, built, plot.name)))
+    report.write_text(between_markers(old, markdown(counts, times, stack_table(Path(stack)), built, plot.name)))
 
 
 main(*sys.argv[1:])

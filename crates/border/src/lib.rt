@@ -1,19 +1,17 @@
 // Floor 2: the border table of a log, by the failure function.
 ghost use mathlib.Core.Path.{_≡_};
-ghost use lib.ListN.{length};
+ghost use Prim.Native.Nat.{_-_, _<_};
+ghost use lib.ListN.{length, getD};
 ghost use Rattle.words.specs.Tables.{borderRow, written};
 ghost use Rattle.words.proofs.Tables.{Room, Filled};
 
-// The border at row r, from the rows before it: along the chain of borders, the first that x[r] can follow.
-fn extend(x: &[u8], t: &[u16], r: usize) -> usize
-    requires { ⌜ Filled borderRow (now x) (now t) r ⌝ }
-    ensures { λ b. ⌜ b ≡ borderRow (now (x .entry)) r ⌝ }
+// The border at row r, from the one of the row before it, b, and the rows before that: along the chain of borders, the first that x[r] can follow.
+fn extend(x: &[u8], t: &[u16], r: usize, b: usize) -> usize
+    requires { ⌜ Filled borderRow (now x) (now t) r × (0 < r) × (b ≡ borderRow (now x) (r - 1)) ⌝ }
+    ensures { λ k. ⌜ k ≡ borderRow (now (x .entry)) r ⌝ }
 {
-    if r == 0 {
-        return 0;
-    }
     let reading = x[r];
-    let mut k = words::wide(t[r - 1]);
+    let mut k = b;
     loop {
         if x[k] == reading {
             return k + 1;
@@ -25,15 +23,28 @@ fn extend(x: &[u8], t: &[u16], r: usize) -> usize
     }
 }
 
+// The rows after the first, with the last border at hand.
+fn fill(x: &[u8], t: &mut [u16])
+    requires { ⌜ Room (now x) (now t) × (0 < length (now x)) × (getD (now t) 0 0 ≡ 0) ⌝ }
+    ensures { λ _. ⌜ now (t .exit) ≡ written (borderRow (now (x .entry))) (length (now (x .entry))) (now (t .entry)) ⌝ }
+{
+    let mut b = 0;
+    let mut r = 1;
+    while r < x.len() {
+        b = extend(x, t, r, b);
+        t[r] = b as u16;
+        r += 1;
+    }
+}
+
 // Writes the border table of x into the first rows of t.
 pub fn rows(x: &[u8], t: &mut [u16])
     requires { ⌜ Room (now x) (now t) ⌝ }
     ensures { λ _. ⌜ now (t .exit) ≡ written (borderRow (now (x .entry))) (length (now (x .entry))) (now (t .entry)) ⌝ }
 {
-    let mut r = 0;
-    while r < x.len() {
-        let b = extend(x, t, r);
-        t[r] = b as u16;
-        r += 1;
+    if x.len() == 0 {
+        return;
     }
+    t[0] = 0;
+    fill(x, t);
 }

@@ -6,7 +6,7 @@ ghost use Rattle.words.proofs.Tables.{Room, Holds, Filled};
 ghost use Rattle.words.proofs.Weighs.{heaviestRow};
 
 // The longest weighed border at row r: the border, if it has no proper cover; else what the border's own row says.
-fn heaviest(x: &[u8], border: &[u16], cover: &[u16], v: &[u16], r: usize) -> usize
+pub fn heaviest(x: &[u8], border: &[u16], cover: &[u16], v: &[u16], r: usize) -> usize
     requires { ⌜ Holds borderRow (now x) (now border) × Holds coverRow (now x) (now cover) × Filled heaviestRow (now x) (now v) r ⌝ }
     ensures { λ w. ⌜ w ≡ heaviestRow (now (x .entry)) r ⌝ }
 {

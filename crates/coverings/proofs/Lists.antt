@@ -61,7 +61,10 @@ pub counted-first : (x : List ℕ) → 0 < length x → Counted x 0 (length x)
 counted-first x h = record { chained = chained-first x h; number = omega (arith, ap length (upTo-all x)); less = omega arith }
 
 module _ {x : List ℕ} {k q : ℕ} (w : Counted x k q) where
-  module _ (nz : q ≡ 0 → ⊥) {t : List ℕ} (h : Holds coverRow x t) (p : ℕ) (e : p ≡ getD t (q - 1) 0) where
+  module _ (some : 0 < q) {t : List ℕ} (h : Holds coverRow x t) (p : ℕ) (e : p ≡ getD t (q - 1) 0) where
+    nz : q ≡ 0 → ⊥
+    nz z = omega arith
+
     pub counted-falls : p < q
     counted-falls = chained-falls (w .chained) nz h p e
 
@@ -72,8 +75,10 @@ module _ {x : List ℕ} {k q : ℕ} (w : Counted x k q) where
       less = omega (arith, counted-falls, w .less);
     }
 
-  pub counted-done : q ≡ 0 → k ≡ length (coverList eqb x)
-  counted-done z = omega (arith, w .number, ap (λ (r : ℕ). length (upTo x (length x) r)) z, ap length (upTo-none x (length x)))
+  pub counted-done : q ≤ 0 → k ≡ length (coverList eqb x)
+  counted-done l =
+      let z : q ≡ 0 = omega arith in
+      omega (arith, w .number, ap (λ (r : ℕ). length (upTo x (length x) r)) z, ap length (upTo-none x (length x)))
 
 -- ---- `write_chain`: of the list the entries from `left` on are written, and the first `left` are the covers up to q
 

@@ -43,7 +43,7 @@ fn chain_length(x: &[u8], cover: &[u16]) -> usize
 {
     let mut k = 0;
     let mut q = x.len();
-    while q != 0 {
+    while 0 < q {
         k += 1;
         q = words::wide(cover[q - 1]);
     }

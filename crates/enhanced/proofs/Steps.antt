@@ -14,8 +14,8 @@ use Rattle.words.specs.Words.{covered, used, total}
 use Rattle.words.specs.Tables.{bestRow, countRow}
 use Rattle.words.specs.Refusals.{longest}
 use Rattle.words.specs.Answers.{weighedPlaces}
-use Rattle.words.proofs.Tables.{Holds}
-use Rattle.words.proofs.Search.{sum-more, sum-bound}
+use Rattle.words.proofs.Tables.{Filled}
+use Rattle.words.proofs.Search.{sum-zero, sum-more, sum-bound}
 use Rattle.words.proofs.Counts.{covered-le}
 use Rattle.words.proofs.Bests.{best-lt, count-le}
 use Rattle.words.proofs.Weighs.{heaviest, heaviestRow, heaviest-lt, rest, rest-first, rest-next, rest-none, used-places}
@@ -29,7 +29,7 @@ abbrev pub usedRow : List ℕ → ℕ → ℕ
 usedRow x j = used eqb x (j + 1)
 
 -- the entry for the prefix of length q stands at row q - 1
-chain-at : {x v : List ℕ} → Holds heaviestRow x v → (q : ℕ) → 0 < q → q ≤ length x → getD v (q - 1) 0 ≡ heaviest x q
+chain-at : {x v : List ℕ} {j : ℕ} → Filled heaviestRow x v j → (q : ℕ) → 0 < q → q ≤ j → getD v (q - 1) 0 ≡ heaviest x q
 chain-at {x} k q h l = k .rows (q - 1) (omega arith) ∙ ap (heaviest x) (omega arith)
 
 -- ---- `better`
@@ -75,19 +75,19 @@ pub record Way (x : List ℕ) (j w : ℕ) (b : Pick) : Type 0 where
   pub picked : Picked x (j + 1) w (b .best) (b .count)
   pub number : b .used + length (rest x (j + 1) w) ≡ used eqb x (j + 1)
 
-module _ {x v : List ℕ} (k : Holds heaviestRow x v) {j w : ℕ} (i : j < length x) (e : w ≡ getD v j 0) where
+module _ {x : List ℕ} {j w : ℕ} (e : w ≡ heaviestRow x j) where
   pub first-round : {l h : List ℕ} → Round x l h j (heaviestRow x j) → Round x l h j w
-  first-round r = rw (e ∙ k .rows j i) r
+  first-round r = rw e r
 
   pub first-way : Way x j w (record { best = 0; count = 0; used = 0 })
   unfolding used
-  first-way = let z = e ∙ k .rows j i in record { picked = picked-start w z; number = rw (z, rest-first x (j + 1)) (omega arith) }
+  first-way = record { picked = picked-start w e; number = rw (e, rest-first x (j + 1)) (omega arith) }
 
 module _ {x l h : List ℕ} {j w : ℕ} (r : Round x l h j w) (nz : w ≡ 0 → ⊥) where
   -- the next border is the row that w names, and it is shorter
-  module _ {v : List ℕ} (k : Holds heaviestRow x v) (p : ℕ) (e : p ≡ getD v (w - 1) 0) where
+  module _ {v : List ℕ} (k : Filled heaviestRow x v j) (p : ℕ) (e : p ≡ getD v (w - 1) 0) where
     next : p ≡ heaviest x w
-    next = e ∙ chain-at k w (omega arith) (omega (arith, r .below, r .inside))
+    next = e ∙ chain-at k w (omega arith) (r .below)
 
     pub next-falls : p < w
     next-falls = omega (arith, next, heaviest-lt x w (omega arith))
@@ -115,7 +115,7 @@ way-done {x} {j} y z = record {
 
 -- ---- `judge`
 
-pub first-tallies : {x v l h s t : List ℕ} → Work x v l h s t → Tallies x l h 0
+pub first-tallies : {x b c v l h s t : List ℕ} → Work x b c v l h s t → Tallies x l h 0
 first-tallies r = record { lasts = r .lasts; holds = r .holds; each = λ n h l. absurd (not-suc-le-zero (lt-of-lt-of-le h l)) }
 
 module _ (x : List ℕ) (j : ℕ) (h : j < length x) (s : length x ≤ longest) where
@@ -135,8 +135,7 @@ module _ (x : List ℕ) (j : ℕ) (h : j < length x) (s : length x ≤ longest) 
       )
 
 pub total-none : (x : List ℕ) → 0 ≡ sum (usedRow x) 0
-unfolding sum
-total-none x = refl
+total-none x = sym (sum-zero (usedRow x))
 
 module _ (x : List ℕ) (j : ℕ) {t : ℕ} (e : t ≡ sum (usedRow x) j) where
   pub total-more : {r : ℕ} → r ≡ used eqb x (j + 1) → t + r ≡ sum (usedRow x) (j + 1)
@@ -145,3 +144,9 @@ module _ (x : List ℕ) (j : ℕ) {t : ℕ} (e : t ≡ sum (usedRow x) j) where
   pub total-done : j ≤ length x → length x ≤ j → t ≡ total eqb x
   unfolding total
   total-done a b = e ∙ ap (sum (usedRow x)) (omega arith)
+
+pub chain-fits : (x : List ℕ) (j : ℕ) {w : ℕ} → w ≡ heaviestRow x j → j < length x → length x ≤ longest → Fits w16 w
+chain-fits x j e h s = omega (arith, heaviest-lt x (j + 1) (omega arith))
+
+pub held-inside : {x l h : List ℕ} {j : ℕ} → Tallies x l h j → j < length x → j < length h
+held-inside t i = omega (arith, t .holds)

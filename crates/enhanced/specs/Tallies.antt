@@ -7,11 +7,11 @@ use Prim.Native.Nat.{ℕ, _+_, _-_, _≤_, _<_, max}
 use lib.ListN.{length, getD}
 use lib.Dec.{eqb, leb}
 use Rattle.words.specs.Words.{cover, covered, used}
-use Rattle.words.specs.Tables.{bestRow, countRow}
+use Rattle.words.specs.Tables.{borderRow, coverRow, bestRow, countRow}
 use Rattle.words.specs.Refusals.{longest}
 use Rattle.words.proofs.Tables.{Holds}
 use Rattle.words.proofs.Occurrences.{Occurs}
-use Rattle.words.proofs.Weighs.{Weighs, heaviestRow}
+use Rattle.words.proofs.Weighs.{Weighs}
 use Rattle.enhanced.specs.declared.Pick.{Pick}
 
 -- e is the last end, up to i, of an occurrence of the prefix of length q, and k the places that it covers up to there
@@ -51,10 +51,12 @@ pub record Judgement (x : List ℕ) (j : ℕ) (b : Pick) : Type 0 where
   pub count : b .count ≡ countRow x j
   pub used : b .used ≡ used eqb x (j + 1)
 
--- the chain, and room in both tables and to work in
-pub record Work (x chain last held best count : List ℕ) : Type 0 where
+-- the border and the cover table, and room in both tables and to work in
+pub record Work (x border cover chain last held best count : List ℕ) : Type 0 where
   pub most : length x ≤ longest
-  pub chains : Holds heaviestRow x chain
+  pub borders : Holds borderRow x border
+  pub covers : Holds coverRow x cover
+  pub chains : length x ≤ length chain
   pub lasts : length x ≤ length last
   pub holds : length x ≤ length held
   pub bests : length x ≤ length best

@@ -5,8 +5,8 @@ ghost use lib.ListN.{length};
 ghost use lib.Dec.{eqb};
 ghost use Rattle.words.specs.Words.{covered, total};
 ghost use Rattle.words.specs.Tables.{borderRow, coverRow, bestRow, countRow, written};
-ghost use Rattle.words.specs.Refusals.{longest};
-ghost use Rattle.words.proofs.Tables.{Room, Holds};
+ghost use Rattle.words.specs.Refusals as Refusals;
+ghost use Rattle.words.proofs.Tables.{Room, Holds, Filled};
 ghost use Rattle.words.proofs.Weighs.{heaviest, heaviestRow};
 ghost use Rattle.enhanced.specs.Tallies.{Tallies, Round, Better, Judgement, Work};
 
@@ -49,7 +49,7 @@ fn better(b: Pick, w: usize, k: usize) -> Pick
 
 // The new prefix, of length j + 1, ends at its own end and covers all of itself.
 fn enter(x: &[u8], last: &mut [u16], held: &mut [u16], j: usize)
-    requires { ⌜ Tallies (now x) (now last) (now held) j × (j < length (now x)) × (length (now x) ≤ longest) ⌝ }
+    requires { ⌜ Tallies (now x) (now last) (now held) j × (j < length (now x)) × (length (now x) ≤ Refusals.longest) ⌝ }
     ensures { λ _. ⌜ Round (now (x .entry)) (now (last .exit)) (now (held .exit)) j (heaviestRow (now (x .entry)) j) ⌝ }
 {
     let i = (j + 1) as u16;
@@ -59,7 +59,7 @@ fn enter(x: &[u8], last: &mut [u16], held: &mut [u16], j: usize)
 
 // The weighed border w ends at j + 1: the positions that it covers up to there.
 fn tally(x: &[u8], last: &mut [u16], held: &mut [u16], j: usize, w: usize) -> usize
-    requires { ⌜ Round (now x) (now last) (now held) j w × (length (now x) ≤ longest) × (0 < w) ⌝ }
+    requires { ⌜ Round (now x) (now last) (now held) j w × (length (now x) ≤ Refusals.longest) × (0 < w) ⌝ }
     ensures { λ k. ⌜ Round (now (x .entry)) (now (last .exit)) (now (held .exit)) j (heaviest (now (x .entry)) w) × (k ≡ covered eqb (now (x .entry)) (j + 1) w) ⌝ }
 {
     let e = words::wide(last[w - 1]);
@@ -70,9 +70,16 @@ fn tally(x: &[u8], last: &mut [u16], held: &mut [u16], j: usize, w: usize) -> us
     k
 }
 
-// The best border of row j, down the chain of its weighed borders.
-fn weigh(x: &[u8], chain: &[u16], last: &mut [u16], held: &mut [u16], j: usize) -> Pick
-    requires { ⌜ Tallies (now x) (now last) (now held) j × (j < length (now x)) × (length (now x) ≤ longest) × Holds heaviestRow (now x) (now chain) ⌝ }
+// The best border of row j, down the chain of its weighed borders, of which the longest is `longest`.
+fn weigh(
+    x: &[u8],
+    chain: &[u16],
+    last: &mut [u16],
+    held: &mut [u16],
+    j: usize,
+    longest: usize,
+) -> Pick
+    requires { ⌜ Tallies (now x) (now last) (now held) j × Filled heaviestRow (now x) (now chain) j × (length (now x) ≤ Refusals.longest) × (longest ≡ heaviestRow (now x) j) ⌝ }
     ensures { λ b. ⌜ Tallies (now (x .entry)) (now (last .exit)) (now (held .exit)) (j + 1) × Judgement (now (x .entry)) j b ⌝ }
 {
     enter(x, last, held, j);
@@ -81,7 +88,7 @@ fn weigh(x: &[u8], chain: &[u16], last: &mut [u16], held: &mut [u16], j: usize) 
         count: 0,
         used: 0,
     };
-    let mut w = words::wide(chain[j]);
+    let mut w = longest;
     while w != 0 {
         let k = tally(x, last, held, j, w);
         b = better(b, w, k);
@@ -90,16 +97,18 @@ fn weigh(x: &[u8], chain: &[u16], last: &mut [u16], held: &mut [u16], j: usize) 
     b
 }
 
-// The rows and the weighed total, from the chain, with room to work in.
+// The rows and the weighed total, from the border and the cover table, with room to work in.
 fn judge(
     x: &[u8],
-    chain: &[u16],
+    border: &[u16],
+    cover: &[u16],
+    chain: &mut [u16],
     last: &mut [u16],
     held: &mut [u16],
     best: &mut [u16],
     count: &mut [u16],
 ) -> u32
-    requires { ⌜ Work (now x) (now chain) (now last) (now held) (now best) (now count) ⌝ }
+    requires { ⌜ Work (now x) (now border) (now cover) (now chain) (now last) (now held) (now best) (now count) ⌝ }
     ensures best { λ _. ⌜ now (best .exit) ≡ written (bestRow (now (x .entry))) (length (now (x .entry))) (now (best .entry)) ⌝ }
     ensures count { λ _. ⌜ now (count .exit) ≡ written (countRow (now (x .entry))) (length (now (x .entry))) (now (count .entry)) ⌝ }
     ensures total { λ r. ⌜ r ≡ total eqb (now (x .entry)) ⌝ }
@@ -107,7 +116,9 @@ fn judge(
     let mut sum: u32 = 0;
     let mut j = 0;
     while j < x.len() {
-        let b = weigh(x, chain, last, held, j);
+        let w = chains::heaviest(x, border, cover, chain, j);
+        let b = weigh(x, chain, last, held, j, w);
+        chain[j] = w as u16;
         best[j] = b.best as u16;
         count[j] = b.count as u16;
         sum += b.used;
@@ -126,6 +137,14 @@ pub fn rows(x: &[u8], border: &[u16], cover: &[u16], best: &mut [u16], count: &m
     let mut chain = [0u16; words::LONGEST];
     let mut last = [0u16; words::LONGEST];
     let mut held = [0u16; words::LONGEST];
-    chains::rows(x, border, cover, &mut chain);
-    judge(x, &chain, &mut last, &mut held, best, count)
+    judge(
+        x,
+        border,
+        cover,
+        &mut chain,
+        &mut last,
+        &mut held,
+        best,
+        count,
+    )
 }

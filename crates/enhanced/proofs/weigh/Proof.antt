@@ -9,10 +9,10 @@ use Rattle.enhanced.proofs.weigh.Statement.{statement}
 use Rattle.enhanced.proofs.weigh.Tie as tie
 
 abbrev Inv-loop : tie.InvT-loop
-Inv-loop x chain last₀ held₀ j b₀ w₀ last held b w = Round x last held j w × Way x j w b × (length last ≡ length last₀) × (length held ≡ length held₀)
+Inv-loop x chain last₀ held₀ j longest b₀ w₀ last held b w = Round x last held j w × Way x j w b × (length last ≡ length last₀) × (length held ≡ length held₀)
 
 abbrev μ-loop : tie.MeasureT-loop
-μ-loop x chain last₀ held₀ j b₀ w₀ last held b w = w
+μ-loop x chain last₀ held₀ j longest b₀ w₀ last held b w = w
 
 loop-less : tie.Need-loop-less Inv-loop μ-loop
 loop-less c = search next-falls
@@ -26,9 +26,6 @@ weigh-spec =
     (tie.spec
     Inv-loop
     μ-loop
-    (λ c κs. search needs)
-    (λ c. search needs)
-    (λ c. search needs)
     (λ c κs. search needs)
     (λ c. (search first-round, search first-way, search needs, search needs))
     (λ c κs. search needs)
