@@ -3,15 +3,14 @@ use mathlib.Core.Path.{_≡_, refl, sym, ap, _∙_}
 use mathlib.Core.List.{List}
 use Prim.Native.Nat.{ℕ, _+_, _-_, _≤_, _<_}
 use native.Mathlib.Omega.{arith}
-use lib.ListN.{length, getD, set, length-set}
-use lib.Seq.{getD-set-same}
+use lib.ListN.{length, getD}
 use lib.Dec.{eqb}
 use mir.Syntax.{w16}
 use mir.Val.{Fits}
 use Rattle.words.specs.Words.{border}
-use Rattle.words.specs.Tables.{borderRow, written}
+use Rattle.words.specs.Tables.{borderRow}
 use Rattle.words.specs.Refusals.{longest}
-use Rattle.words.proofs.Tables.{Filled, Room, Rows, rows-first, written-none, written-over}
+use Rattle.words.proofs.Tables.{Filled, Room, Rows, rows-first}
 use Rattle.words.proofs.Borders.{Candidate, candidate-first, candidate-next, border-lt, border-one}
 
 -- the entry for the prefix of length k stands at row k - 1
@@ -49,15 +48,3 @@ fill-start {x} h s e = rows-first (h .room) s (e ∙ first-row x)
 
 pub row-before : (x : List ℕ) (r : ℕ) {b : ℕ} → b ≡ borderRow x r → b ≡ borderRow x (r + 1 - 1)
 row-before x r e = e ∙ ap (borderRow x) (omega arith)
-
-pub rows-empty : (x t : List ℕ) → length x ≡ 0 → t ≡ written (borderRow x) (length x) t
-rows-empty x t e = rw e (sym (written-none (borderRow x) t))
-
-pub rows-set : (x t : List ℕ) {s : List ℕ} → (length x ≡ 0 → ⊥) → s ≡ written (borderRow x) (length x) (set t 0 0) → s ≡ written (borderRow x) (length x) t
-rows-set x t nz e = e ∙ written-over (borderRow x) (length x) t 0 0 (omega arith)
-
-pub set-room : (x t : List ℕ) → Room x t → Room x (set t 0 0)
-set-room x t h = record { most = h .most; room = rw (length-set t 0 0) (h .room) }
-
-pub set-first : (x t : List ℕ) → Room x t → (length x ≡ 0 → ⊥) → getD (set t 0 0) 0 0 ≡ 0
-set-first x t h nz = getD-set-same t 0 0 0 (omega (arith, h .room))

@@ -15,7 +15,7 @@ use Rattle.words.specs.Words.{border, cover}
 use Rattle.words.proofs.Tests.{both-ways, not-passed, le-or-lt, eq-or-ne}
 use Rattle.words.proofs.Search.{howMany-hit, howMany-miss, howMany-le, howMany-same, howMany-drop, howMany-some, some-howMany}
 use Rattle.words.proofs.Occurrences.{eqb-refl}
-use Rattle.words.proofs.Covers.{Covers, covers-self, covers-through, covers-nested, cover-covers, cover-lt, cover-most}
+use Rattle.words.proofs.Covers.{Covers, covers-self, covers-through, covers-nested, cover-covers, cover-proper, cover-lt, cover-most}
 use Rattle.words.proofs.Periods.{period-covers, covers-period}
 use Rattle.cover.specs.Tree.{Live, Jump, kidTest, Forest}
 use Rattle.cover.proofs.Walk.{Walk, walk-none, walk-hit, walk-next}
@@ -33,18 +33,15 @@ module _ (x : List ℕ) where
     true-kid l e = and-eq-true-iff (eqb (getD up m 0) m) (eqb (cover eqb x m) a) .1 (eq-eqb _ _ l, eq-eqb _ _ e)
 
   -- the parent, and that it is one
-  pub coverAt-le : (m : ℕ) → cover eqb x m ≤ m
-  coverAt-le m = ⊎-elim (λ (e : cover eqb x m ≡ 0). omega arith) (λ (c : Covers eqb x m (cover eqb x m)). c .most) (cover-covers eqb x m)
+  pub parent-le : (m : ℕ) → cover eqb x m ≤ m
+  parent-le m = ⊎-elim (λ (e : cover eqb x m ≡ 0). omega arith) (λ (c : Covers eqb x m (cover eqb x m)). c .most) (cover-covers eqb x m)
 
-  pub coverAt-zero : cover eqb x 0 ≡ 0
-  coverAt-zero = omega (arith, coverAt-le 0)
-
-  parent-covers : (m : ℕ) → 0 < cover eqb x m → Covers eqb x m (cover eqb x m)
-  parent-covers m h = ⊎-elim (λ e. absurd (omega arith)) (λ c. c) (cover-covers eqb x m)
+  pub parent-zero : cover eqb x 0 ≡ 0
+  parent-zero = omega (arith, parent-le 0)
 
   parent-below : (m a : ℕ) → cover eqb x m ≡ a → 0 < a → a < m
   parent-below m a e h = ⊎-elim
-      (λ (l : m ≤ 0). absurd (omega (arith, coverAt-le m)))
+      (λ (l : m ≤ 0). absurd (omega (arith, parent-le m)))
       (λ (l : 0 < m). omega (arith, cover-lt eqb x m l))
       (le-or-lt m 0)
 
@@ -57,7 +54,7 @@ module _ {x up kids : List ℕ} {per j : ℕ} where
         let c = f .held q h g l (λ z. omega arith) v in
         let k = howMany-some (kidTest x up q) (j + 1) (omega (arith, f .kid q (omega (arith, f .inside)))) in
         let w = kid-true x up q (k .0) (k .2) in
-        (k .0, omega arith, parent-below x (k .0) q (w .1) h, w .0, rw (w .1) at (parent-covers x (k .0) (omega arith)))
+        (k .0, omega arith, parent-below x (k .0) q (w .1) h, w .0, rw (w .1) at (cover-proper eqb x (k .0) (omega arith)))
 
     live-covers : (n q : ℕ) → j - q ≤ n → 0 < q → q ≤ j → Live up q → (m : ℕ) × (per ≤ m) × (m ≤ j) × Covers eqb x m q
     live-covers zero q d h l v = ⊎-elim
@@ -81,7 +78,7 @@ module _ {x up kids : List ℕ} {per j : ℕ} where
         (λ (z : q ≡ m). rw z l)
         (λ (g : q < m).
         let w = cover-most eqb x m q c g in
-        let p = parent-covers x m (omega arith) in
+        let p = cover-proper eqb x m (omega arith) in
         covers-live n (cover eqb x m) q (omega (arith, cover-lt eqb x m (omega arith))) (omega arith) (f .climb m u l) (covers-nested x q (cover eqb x m) m c p w))
         (eq-or-lt-of-le (c .most))
 
@@ -256,7 +253,7 @@ module _ {x up kids : List ℕ} {j : ℕ} where
       -- it is not the root, which is its own child
       pub fall-some : 0 < q
       fall-some = ⊎-elim
-          (λ (l : q ≤ 0). omega (arith, has-kid q q (w .below) (omega arith) (w .live) (omega (arith, coverAt-le x q))))
+          (λ (l : q ≤ 0). omega (arith, has-kid q q (w .below) (omega arith) (w .live) (omega (arith, parent-le x q))))
           (λ l. l)
           (le-or-lt q 0)
 
@@ -312,15 +309,15 @@ forest-first {x} {up} {kids} hu hk root one none = record {
   counts = hk;
   root = root;
   young = λ m l u. absurd (omega arith);
-  climb = λ m u l. ⊎-elim (λ (z : m ≡ 0). rw (z, coverAt-zero x) root) (λ (g : m < 0). absurd (omega arith)) (eq-or-lt-of-le u);
+  climb = λ m u l. ⊎-elim (λ (z : m ≡ 0). rw (z, parent-zero x) root) (λ (g : m < 0). absurd (omega arith)) (eq-or-lt-of-le u);
   held = λ m l o u ne v. absurd (omega arith);
   jump = λ m u. ⊎-elim
       (λ (z : m ≡ 0). rw (z, root) (record { to = inl refl; most = λ p c l. c .most }))
       (λ (g : m < 0). absurd (omega arith))
       (eq-or-lt-of-le u);
   kid = λ a h. ⊎-elim
-      (λ (z : a ≡ 0). rw (z, one, true-kid x up 0 0 root (coverAt-zero x)))
-      (λ (ne : a ≡ 0 → ⊥). rw (none a (omega arith) h, not-passed (kidTest x up a 0) (λ t. ne (sym (kid-true x up a 0 t .1) ∙ coverAt-zero x))))
+      (λ (z : a ≡ 0). rw (z, one, true-kid x up 0 0 root (parent-zero x)))
+      (λ (ne : a ≡ 0 → ⊥). rw (none a (omega arith) h, not-passed (kidTest x up a 0) (λ t. ne (sym (kid-true x up a 0 t .1) ∙ parent-zero x))))
       (eq-or-ne a 0);
 }
 
@@ -372,7 +369,7 @@ module _ {x up kids : List ℕ} {per j : ℕ} (f : Forest x up kids per j 0) (h 
         young = λ m l b. ⊎-elim (λ (z : m ≡ j + 1). rw z new) (λ (g : m < j + 1). on m g (f .young m l (omega arith))) (eq-or-lt-of-le b);
         climb = λ m b w. ⊎-elim
             (λ (z : m ≡ j + 1). rw (z, ← eq) (on q low live))
-            (λ (g : m < j + 1). on (cover eqb x m) (omega (arith, coverAt-le x m)) (f .climb m (omega arith) (back m g w)))
+            (λ (g : m < j + 1). on (cover eqb x m) (omega (arith, parent-le x m)) (f .climb m (omega arith) (back m g w)))
             (eq-or-lt-of-le b);
         held = λ m l o b ne w.
             let k = f .held m l o (omega arith) ne (back m (omega arith) w) in

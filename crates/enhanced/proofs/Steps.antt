@@ -15,7 +15,7 @@ use Rattle.words.specs.Tables.{bestRow, countRow}
 use Rattle.words.specs.Refusals.{longest}
 use Rattle.words.specs.Answers.{weighedPlaces}
 use Rattle.words.proofs.Tables.{Filled}
-use Rattle.words.proofs.Search.{sum-more, sum-bound}
+use Rattle.words.proofs.Search.{sum-zero, sum-more, sum-bound}
 use Rattle.words.proofs.Counts.{covered-le}
 use Rattle.words.proofs.Bests.{best-lt, count-le}
 use Rattle.words.proofs.Weighs.{heaviest, heaviestRow, heaviest-lt, rest, rest-first, rest-next, rest-none, used-places}
@@ -135,8 +135,7 @@ module _ (x : List ℕ) (j : ℕ) (h : j < length x) (s : length x ≤ longest) 
       )
 
 pub total-none : (x : List ℕ) → 0 ≡ sum (usedRow x) 0
-unfolding sum
-total-none x = refl
+total-none x = sym (sum-zero (usedRow x))
 
 module _ (x : List ℕ) (j : ℕ) {t : ℕ} (e : t ≡ sum (usedRow x) j) where
   pub total-more : {r : ℕ} → r ≡ used eqb x (j + 1) → t + r ≡ sum (usedRow x) (j + 1)

@@ -3,16 +3,15 @@ use mathlib.Core.Path.{_≡_, sym, ap, _∙_}
 use mathlib.Core.List.{List}
 use Prim.Native.Nat.{ℕ, _+_, _-_, _^_, _≤_, _<_}
 use native.Mathlib.Omega.{arith}
-use lib.ListN.{length, getD, set, length-set}
-use lib.Seq.{getD-set-same}
+use lib.ListN.{length, getD}
 use lib.Dec.{eqb}
 use borrow.Author.Tests.{eq-eqb, eqb-true}
 use mir.Syntax.{w16, w64}
 use mir.Val.{Fits}
 use Rattle.prefix.specs.Stretch.{Stretch, Reached}
-use Rattle.words.specs.Tables.{prefixRow, written}
+use Rattle.words.specs.Tables.{prefixRow}
 use Rattle.words.specs.Refusals.{longest}
-use Rattle.words.proofs.Tables.{Filled, Room, Rows, rows-first, written-none, written-over}
+use Rattle.words.proofs.Tables.{Filled, Room, Rows, rows-first}
 use Rattle.words.proofs.Occurrences.{eqb-refl, same, at}
 use Rattle.words.proofs.Prefixes.{Reaches, reaches-none, reaches-more, reaches-inside, reaches-shorter, prefix-reaches, prefix-most, prefix-is, prefix-first}
 
@@ -83,15 +82,3 @@ first-stretch x h = record { later = omega arith; left = omega arith; order = om
 
 pub row-fits : (x : List ℕ) (r : ℕ) {p from to : ℕ} → Reached x r p from to → r < length x → length x ≤ longest → Fits w16 p
 row-fits x r {p} w h s = omega (arith, row-bound x r p (w .row) h)
-
-pub rows-empty : (x t : List ℕ) → length x ≡ 0 → t ≡ written (prefixRow x) (length x) t
-rows-empty x t e = rw e (sym (written-none (prefixRow x) t))
-
-pub rows-set : (x t : List ℕ) {s : List ℕ} → (length x ≡ 0 → ⊥) → s ≡ written (prefixRow x) (length x) (set t 0 (length x)) → s ≡ written (prefixRow x) (length x) t
-rows-set x t nz e = e ∙ written-over (prefixRow x) (length x) t 0 (length x) (omega arith)
-
-pub set-room : (x t : List ℕ) → Room x t → Room x (set t 0 (length x))
-set-room x t h = record { most = h .most; room = rw (length-set t 0 (length x)) (h .room) }
-
-pub set-first : (x t : List ℕ) → Room x t → (length x ≡ 0 → ⊥) → getD (set t 0 (length x)) 0 0 ≡ length x
-set-first x t h nz = getD-set-same t 0 (length x) 0 (omega (arith, h .room))

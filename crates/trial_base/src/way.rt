@@ -15,13 +15,13 @@ impl Way {
         }
     }
 
-    // Of n rows the first ones, then one in every so many, and the last.
+    // Of n rows the first ones, then one in every so many, and the last; and every place past them, where calls are refused.
     pub fn picks(self, row: usize, n: usize) -> bool {
         let every = self.every;
         if row <= self.first {
             return true;
         }
-        if row == n {
+        if n <= row {
             return true;
         }
         if every == 0 { false } else { row % every == 0 }

@@ -82,10 +82,7 @@ module _ (ag : ℕ → ℕ → Bool) (x : List ℕ) where
   unfolding cover
   cover-is i q c h most = greatest-is (covers ag x i) i q h (covers-iff i q .1 c) (λ p l e. most p (covers-iff i p .0 e) l)
 
-  -- it is 0 exactly where there is no proper cover
-  pub cover-none : (i : ℕ) → ((q : ℕ) → Covers ag x i q → q < i → ⊥) → 0 < i → cover ag x i ≡ 0
-  cover-none i none h = ⊎-elim (λ e. e) (λ c. absurd (none (cover ag x i) c (cover-lt i h))) (cover-covers i)
-
+  -- where it is 0 there is none
   pub cover-zero : (i q : ℕ) → cover ag x i ≡ 0 → Covers ag x i q → q < i → ⊥
   cover-zero i q z c h = omega (arith, cover-most i q c h, c .some)
 

@@ -123,6 +123,14 @@ module _ (a n : ℕ) where
   pub flat-coverList : coverList eqb x ≡ tabulate suc n
   flat-coverList = upTo-all x ∙ ap (λ (k : ℕ). upTo x k k) (length-replicate n a) ∙ covers-up n (omega arith)
 
+-- the whole log: one theorem over its length
+pub record FlatLog (x : List ℕ) (n : ℕ) : Type 0 where
+  pub whole : Flat x n
+  pub covers : coverList eqb x ≡ tabulate suc n
+
+pub flat-log : (a n : ℕ) → 2 ≤ n → FlatLog (replicate n a) n
+flat-log a n two = record { whole = flat a n n two (omega arith); covers = flat-coverList a n }
+
 -- at the ceiling: every reading counts, and the head is held
 pub flat-ceiling : (n : ℕ) → ceiling (replicate n ceilingSymbol) ≡ n
 unfolding ceiling

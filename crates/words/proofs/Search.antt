@@ -30,14 +30,6 @@ module _ (p : ℕ → Bool) where
   pub all-fails : (n k : ℕ) → k < n → p k ≡ false → all p n ≡ false
   all-fails n k h e = not-passed (all p n) (λ t. true≢false (sym (all-at n t k h) ∙ e))
 
-  pub all-none : all p 0 ≡ true
-  unfolding all
-  all-none = refl
-
-  pub all-more : (n : ℕ) → all p n ≡ true → p n ≡ true → all p (n + 1) ≡ true
-  unfolding all
-  all-more n e d = rw add-one (and-both (all p n) (p n) e d)
-
   -- ---- any: some k below n passes
 
   pub any-some : (n : ℕ) → any p n ≡ true → (k : ℕ) × (k < n) × (p k ≡ true)

@@ -1,13 +1,12 @@
 -- Tables: the list that a loop has made when it has stored f 0, .., f (n - 1) from the front, and the same in a middle part. Assumes nothing.
 use mathlib.Core.Path.{_≡_, refl, sym, ap, _∙_}
-use mathlib.Core.List.{List, [], _∷_, _++_, append-assoc, append-nil}
-use mathlib.Core.Logic.{⊎-elim}
+use mathlib.Core.List.{List, [], _∷_, _++_, append-assoc}
 use Prim.Native.Nat.{ℕ, zero, suc, _+_, _-_, _≤_, _<_}
 use native.Mathlib.Nat.{not-suc-le-zero}
 use native.Mathlib.Numerals.{add-one}
 use native.Mathlib.Omega.{arith}
-use lib.ListN.{length, getD, take, drop, set, length-append, length-take, length-drop, List·getD-append, drop-of-length-le, take-append-drop}
-use lib.Seq.{drop-cons, set-at, getD-at, getD-take, getD-drop, getD-append-add, length-take-le, set-getD, drop-set-lt}
+use lib.ListN.{length, getD, take, drop, set, length-append, length-drop, length-set, List·getD-append}
+use lib.Seq.{drop-cons, set-at, getD-at, getD-take, getD-drop, getD-append-add, getD-set-same, length-take-le, set-getD, drop-set-lt}
 use Rattle.words.specs.Tables.{Column, tabulate, written, window, placed}
 use Rattle.words.specs.Refusals.{longest}
 use Rattle.words.proofs.Tests.{last-or}
@@ -56,11 +55,6 @@ module _ (f : ℕ → ℕ) where
   pub written-over : (n : ℕ) (t : List ℕ) (r v : ℕ) → r < n → written f n (set t r v) ≡ written f n t
   unfolding written
   written-over n t r v h = ap (λ (y : List ℕ). tabulate f n ++ y) (drop-set-lt n t r v h)
-
-  -- a table of just n rows, whatever it held
-  pub written-all : (n : ℕ) (t : List ℕ) → length t ≡ n → written f n t ≡ tabulate f n
-  unfolding written
-  written-all n t e = rw (drop-of-length-le t {i = n} (omega arith)) (append-nil (tabulate f n))
 
   -- ---- a middle part
 
@@ -122,6 +116,21 @@ written-holds f x s h e = record {
   room = omega (arith, ap length e, length-written (f x) (length x) s h);
   rows = λ r l. ap (λ (y : List ℕ). getD y r 0) e ∙ getD-written (f x) (length x) s r l;
 }
+
+-- the first row is stored before the others are filled in, whatever it held
+module _ (f : Column) (x t : List ℕ) where
+  pub written-empty : length x ≡ 0 → t ≡ written (f x) (length x) t
+  written-empty e = rw e (sym (written-none (f x) t))
+
+  pub written-first : (v : ℕ) {s : List ℕ} → (length x ≡ 0 → ⊥) → s ≡ written (f x) (length x) (set t 0 v) → s ≡ written (f x) (length x) t
+  written-first v nz e = e ∙ written-over (f x) (length x) t 0 v (omega arith)
+
+module _ (x t : List ℕ) (v : ℕ) (h : Room x t) where
+  pub first-room : Room x (set t 0 v)
+  first-room = record { most = h .most; room = rw (length-set t 0 v) (h .room) }
+
+  pub first-stored : (length x ≡ 0 → ⊥) → getD (set t 0 v) 0 0 ≡ v
+  first-stored nz = getD-set-same t 0 v 0 (omega (arith, h .room))
 
 -- A loop that fills a table: t is t₀ with the first r rows of the column written. Its invariant, and what each turn and the end make of it.
 pub record Rows (f : Column) (x t₀ t : List ℕ) (r : ℕ) : Type 0 where

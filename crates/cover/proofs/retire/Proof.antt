@@ -31,7 +31,7 @@ retire-spec =
     (λ c κs. search needs)
     (λ c. search retire-scaled)
     (λ c. search retire-inside)
-    (λ c. search retire-counted)
+    (λ c. search (needs, retire-counted))
     (λ c. search retire-inside)
     (λ c. search retire-falls)
     (λ c. search (needs, retire-next))

@@ -10,7 +10,7 @@ enhanced-table-spec =
     (tie.spec
     (λ c κs. search needs)
     (λ c. enhanced-refused _ _ _ (search needs) (search needs))
-    (λ c κs. (search best-lent, search count-lent))
+    (λ c κs. (search (best-lent, count-lent), search (best-lent, count-lent)))
     (λ c. search needs)
     (λ c. search needs)
     (λ c. enhanced-done _ _ _ (search needs) (search needs) (search needs) (search needs)))

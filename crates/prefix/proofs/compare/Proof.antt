@@ -9,5 +9,5 @@ compare-spec =
     tie.close
     (tie.spec
     (λ c κs. search needs)
-    (λ c. search compare-fits)
+    (λ c. search (needs, compare-fits))
     (λ c. search compare-done))

@@ -23,9 +23,9 @@ fill-spec =
     μ-loop
     (λ c. (search fill-start, search first-stretch, search needs))
     (λ c κs. (search rows-filled, search needs, search needs))
-    (λ c. search row-fits)
+    (λ c. search (needs, row-fits))
     (λ c. search needs)
-    (λ c. search rows-inside)
+    (λ c. search (needs, rows-inside))
     (λ c. search needs)
     (λ c. search needs)
     (λ c. (search (needs, rows-more), search needs, search needs))

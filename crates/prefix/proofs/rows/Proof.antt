@@ -2,7 +2,8 @@
 use mathlib.Core.Path.{_∙_}
 use borrow.Author.Needs.{needs}
 use lib.ListN.{length-set}
-use Rattle.prefix.proofs.Steps.{rows-empty, rows-set, set-room, set-first}
+use Rattle.words.specs.Tables.{prefixRow}
+use Rattle.words.proofs.Tables.{written-empty, written-first, first-room, first-stored}
 use Rattle.prefix.proofs.rows.Statement.{statement}
 use Rattle.prefix.proofs.rows.Tie as tie
 
@@ -10,9 +11,9 @@ pub rows-spec : {M : Type 1} → statement M
 rows-spec =
     tie.close
     (tie.spec
-    (λ c. search rows-empty)
+    (λ c. search (written-empty prefixRow))
     (λ c. search needs)
     (λ c. search needs)
-    (λ c κs. (search set-room, search needs, search set-first))
+    (λ c κs. (search first-room, search needs, search first-stored))
     (λ c. c .before .before .fill .kept .1 .0 ∙ simp length-set)
-    (λ c. search rows-set))
+    (λ c. search (written-first prefixRow)))

@@ -1,0 +1,4 @@
+-- The laws, each file over those above it.
+pub mod Agreements
+pub mod Reaching
+pub mod Runs

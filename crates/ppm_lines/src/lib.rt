@@ -1,0 +1,149 @@
+// Floor 4: from a text of readings in whole ppm, one a line, to the plant's file.
+ghost use Rattle.ppm_text.specs.Texts.{Made};
+ghost use Rattle.ppm_text.specs.States.{Room, After, Holds};
+use ppm_text::Fault;
+use ppm_text::State;
+
+// How the input stands after a read.
+pub enum Input {
+    More,
+    End,
+    Failed,
+}
+
+// The state of the reading, and of the input.
+pub struct Reading {
+    pub state: State,
+    pub input: Input,
+}
+
+fn is_more(i: Input) -> bool {
+    if let Input::More = i { true } else { false }
+}
+
+fn is_end(i: Input) -> bool {
+    if let Input::End = i { true } else { false }
+}
+
+// Reads once.
+fn read_piece(from: i32, s: State, file: &mut [u8]) -> Reading
+    requires { ⌜ After s (now file) ⌝ }
+    ensures { λ r. ⌜ After (r .state) (now (file .exit)) ⌝ }
+{
+    let mut buf = io::buffer();
+    let got = libc::read(from, &mut buf);
+    if got < 0 {
+        return Reading {
+            state: s,
+            input: Input::Failed,
+        };
+    }
+    if got == 0 {
+        return Reading {
+            state: s,
+            input: Input::End,
+        };
+    }
+    let n = io::count(got, &buf);
+    Reading {
+        state: ppm_text::feed(s, &buf[..n], file),
+        input: Input::More,
+    }
+}
+
+// Reads to the end. A proved loop has to end, and nothing says that an input does: so the loop counts its turns down, from a number that no run uses up.
+fn read_text(from: i32, file: &mut [u8]) -> Reading
+    requires { ⌜ Room 0 (now file) ⌝ }
+    ensures { λ r. ⌜ After (r .state) (now (file .exit)) ⌝ }
+{
+    let mut t = Reading {
+        state: ppm_text::start(),
+        input: Input::More,
+    };
+    let mut turns = u64::MAX;
+    while 0 < turns {
+        let s = t.state;
+        t = read_piece(from, s, file);
+        let input = t.input;
+        if !is_more(input) {
+            return t;
+        }
+        turns -= 1;
+    }
+    t
+}
+
+// Says what is wrong with a line.
+fn say_line(to: i32, number: u64, what: &[u8]) {
+    io::write_all(to, b"line ");
+    io::print_decimal(to, number);
+    io::write_all(to, b": ");
+    io::write_all(to, what);
+    io::write_all(to, b"\n");
+}
+
+// Says what is wrong with a text.
+fn say_fault(to: i32, f: Fault, number: u64) {
+    match f {
+        Fault::Nothing => {}
+        Fault::NoNumber => {
+            say_line(to, number, b"not a number");
+        }
+        Fault::LongNumber => {
+            say_line(to, number, b"more than 6 digits");
+        }
+        Fault::Many => {
+            say_line(to, number, b"more than 4096 readings");
+        }
+        Fault::Empty => {
+            io::write_all(to, b"no reading\n");
+        }
+    }
+}
+
+// Ends the text and answers the length of its file, or 0 where something is wrong, which it says.
+fn finish(t: Reading, say: i32, file: &mut [u8]) -> usize
+    requires { ⌜ After (t .state) (now file) ⌝ }
+    ensures { λ r. ⌜ Holds r (now (file .exit)) ⌝ }
+{
+    let input = t.input;
+    if !is_end(input) {
+        io::write_all(say, b"the input cannot be read\n");
+        return 0;
+    }
+    let s = t.state;
+    let e = ppm_text::end_text(s, file);
+    let fault = e.fault;
+    if ppm_text::is_fault(fault) {
+        say_fault(say, fault, e.number);
+        return 0;
+    }
+    3 + e.readings
+}
+
+// Reads a text to its end and makes its file. Answers the file's length, or 0 where something is wrong, which it says.
+pub fn make_file(from: i32, say: i32, file: &mut [u8; 4099]) -> usize
+    ensures { λ r. ⌜ Holds r (now (file .exit)) ⌝ }
+{
+    let t = read_text(from, file);
+    finish(t, say, file)
+}
+
+// Writes a file: of some text, and one that the plant's reader accepts.
+fn put(to: i32, file: &[u8]) -> bool
+    requires { ⌜ Made (now file) ⌝ }
+{
+    io::write_all(to, file)
+}
+
+// From a text of readings to the plant's file. What is wrong is said apart.
+pub fn run(from: i32, to: i32, say: i32) {
+    let mut file = [0u8; 4099];
+    let n = make_file(from, say, &mut file);
+    if n == 0 {
+        return;
+    }
+    if !put(to, &file[..n]) {
+        io::write_all(say, b"the file cannot be written\n");
+    }
+}

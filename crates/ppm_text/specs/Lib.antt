@@ -1,0 +1,3 @@
+-- What the contracts cite, in the order in which to read it.
+pub mod Texts
+pub mod States

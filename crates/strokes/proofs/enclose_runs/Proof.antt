@@ -1,0 +1,24 @@
+-- `strokes::enclose_runs` meets its contract. The loop's measure is the readings left. Assumes nothing.
+use Prim.Native.Nat.{_-_}
+use borrow.Author.Needs.{needs}
+use lib.ListN.{length}
+use Rattle.strokes.proofs.enclose_runs.Statement.{statement}
+use Rattle.strokes.proofs.enclose_runs.Tie as tie
+
+abbrev Inv-loop : tie.InvT-loop
+Inv-loop to x v top bottom p₀ p = Unit {0}
+
+abbrev μ-loop : tie.MeasureT-loop
+μ-loop to x v top bottom p₀ p = length x - p
+
+pub enclose-runs-spec : {M : Type 1} → statement M
+enclose-runs-spec =
+    tie.close
+    (tie.spec
+    Inv-loop
+    μ-loop
+    (λ c. search needs)
+    (λ c κs. search needs)
+    (λ c. search needs)
+    (λ c. search needs)
+    (λ c. search needs))

@@ -1,0 +1,29 @@
+-- `strokes::list` meets its contract. The loop's measure is the entries left. Assumes nothing.
+use Prim.Native.Nat.{_-_}
+use borrow.Author.Needs.{needs}
+use lib.ListN.{length}
+use Rattle.strokes.proofs.list.Statement.{statement}
+use Rattle.strokes.proofs.list.Tie as tie
+
+abbrev Inv-loop : tie.InvT-loop
+Inv-loop to t i₀ t4 i = Unit {0}
+
+abbrev μ-loop : tie.MeasureT-loop
+μ-loop to t i₀ t4 i = length t - i
+
+pub list-spec : {M : Type 1} → statement M
+list-spec =
+    tie.close
+    (tie.spec
+    Inv-loop
+    μ-loop
+    (λ c. search needs)
+    (λ c. search needs)
+    (λ c. search needs)
+    (λ c. search needs)
+    (λ c κs. search needs)
+    (λ c κs. search needs)
+    (λ c. search needs)
+    (λ c. search needs)
+    (λ c. search needs)
+    (λ c. search needs))
