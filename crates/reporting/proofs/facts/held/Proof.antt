@@ -1,0 +1,17 @@
+-- `reporting::facts::held` meets its contract. Assumes nothing.
+use borrow.Author.Needs.{needs}
+use Rattle.reporting.proofs.Answered.{held-is}
+use Rattle.reporting.proofs.facts.held.Statement.{statement}
+use Rattle.reporting.proofs.facts.held.Tie as tie
+
+pub held-spec : {M : Type 1} → statement M
+held-spec =
+    tie.close
+    (tie.spec
+    (λ c κs. search needs)
+    (λ c κs. search needs)
+    (λ c. search needs)
+    (λ c. search needs)
+    (λ c κs. search needs)
+    (λ c. search needs)
+    (λ c. search held-is))
