@@ -1,10 +1,10 @@
--- `strings::tests` meets its contract. The loop's invariant is the table's length, its measure the tests left. Assumes nothing.
+-- `listing::tests` meets its contract. The loop's invariant is the table's length, its measure the tests left. Assumes nothing.
 use Prim.Native.Nat.{_-_}
 use borrow.Author.Needs.{needs}
 use mathlib.Core.Path.{_≡_}
 use lib.ListN.{length}
-use Rattle.strings.proofs.tests.Statement.{statement}
-use Rattle.strings.proofs.tests.Tie as tie
+use Rattle.listing.proofs.tests.Statement.{statement}
+use Rattle.listing.proofs.tests.Tie as tie
 
 abbrev Inv-loop : tie.InvT-loop
 Inv-loop x t₀ q₀ t4 t q = length t ≡ 32
@@ -29,6 +29,5 @@ tests-spec =
     (λ c. search needs)
     (λ c. search needs)
     (λ c. search needs)
-    (λ c κs. search needs)
     (λ c κs. search needs)
     (λ c. search needs))

@@ -1,10 +1,10 @@
--- `strings::breakdown` meets its contract. The loop's invariant is the table's length, its measure the parts left. Assumes nothing.
+-- `listing::breakdown` meets its contract. The loop's invariant is the table's length, its measure the parts left. Assumes nothing.
 use Prim.Native.Nat.{_-_}
 use borrow.Author.Needs.{needs}
 use mathlib.Core.Path.{_≡_}
 use lib.ListN.{length}
-use Rattle.strings.proofs.breakdown.Statement.{statement}
-use Rattle.strings.proofs.breakdown.Tie as tie
+use Rattle.listing.proofs.breakdown.Statement.{statement}
+use Rattle.listing.proofs.breakdown.Tie as tie
 
 abbrev Inv-loop : tie.InvT-loop
 Inv-loop x b parts t₀ d₀ t7 t d = length t ≡ 13
@@ -29,7 +29,6 @@ breakdown-spec =
     (λ c. search needs)
     (λ c. search needs)
     (λ c. search needs)
-    (λ c κs. search needs)
     (λ c κs. search needs)
     (λ c κs. search needs)
     (λ c. search needs))
