@@ -1,10 +1,10 @@
 // The lines of the rows. As in the report, each function makes one line and returns where it ends.
 ghost use mathlib.Core.List.{[], _∷_};
-ghost use Prim.Native.Nat.{_+_, _*_, _≤_};
+ghost use Prim.Native.Nat.{_+_, _≤_};
 ghost use lib.ListN.{length, getD};
-ghost use Rattle.words.specs.Refusals.{longest};
-ghost use Rattle.lines.specs.Text.{fieldRoom, Says};
-ghost use Rattle.reporting.specs.Report as Report;
+ghost use Rattle.lines.specs.Text.{Says};
+ghost use Rattle.facts.specs.Report.{lineRoom, Lent};
+ghost use Rattle.reporting.specs.Rows as Rows;
 
 // The row r, from 0.
 fn row(
@@ -16,8 +16,8 @@ fn row(
     count: &[u16],
     line: &mut [u8],
 ) -> usize
-    requires { ⌜ Report.Rows (r + 1) (now border) (now prefix) (now cover) (now best) (now count) (now line) ⌝ }
-    ensures { λ e. ⌜ Says (now (line .exit)) e (Report.rowLine (r + 1) (getD (now (border .entry)) r 0 ∷ getD (now (prefix .entry)) r 0 ∷ getD (now (cover .entry)) r 0 ∷ getD (now (best .entry)) r 0 ∷ getD (now (count .entry)) r 0 ∷ [])) ⌝ }
+    requires { ⌜ Rows.Tables (r + 1) (now border) (now prefix) (now cover) (now best) (now count) (now line) ⌝ }
+    ensures { λ e. ⌜ Says (now (line .exit)) e (Rows.rowLine (r + 1) (getD (now (border .entry)) r 0 ∷ getD (now (prefix .entry)) r 0 ∷ getD (now (cover .entry)) r 0 ∷ getD (now (best .entry)) r 0 ∷ getD (now (count .entry)) r 0 ∷ [])) ⌝ }
 {
     lines::numbered(
         line,
@@ -27,8 +27,8 @@ fn row(
 }
 
 fn total(n: u32, line: &mut [u8]) -> usize
-    requires { ⌜ 8 + fieldRoom * longest ≤ length (now line) ⌝ }
-    ensures { λ r. ⌜ Says (now (line .exit)) r (Report.totalLine n) ⌝ }
+    requires { ⌜ lineRoom ≤ length (now line) ⌝ }
+    ensures { λ r. ⌜ Says (now (line .exit)) r (Rows.totalLine n) ⌝ }
 {
     lines::counted(line, b"total", n as usize)
 }
@@ -43,7 +43,7 @@ fn print_rows(
     count: &[u16],
     line: &mut [u8],
 )
-    requires { ⌜ Report.Rows n (now border) (now prefix) (now cover) (now best) (now count) (now line) ⌝ }
+    requires { ⌜ Rows.Tables n (now border) (now prefix) (now cover) (now best) (now count) (now line) ⌝ }
 {
     let mut r = 0;
     while r < n {
@@ -55,7 +55,7 @@ fn print_rows(
 
 // Prints every row of the tables of an accepted log, and the weighed total.
 pub fn print(x: &[u8], line: &mut [u8])
-    requires { ⌜ Report.Lent (now x) (now line) ⌝ }
+    requires { ⌜ Lent (now x) (now line) ⌝ }
 {
     let mut border = [0u16; words::LONGEST];
     let mut prefix = [0u16; words::LONGEST];

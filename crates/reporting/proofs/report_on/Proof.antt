@@ -1,6 +1,6 @@
 -- `reporting::report_on` meets its contract. Assumes nothing.
 use borrow.Author.Needs.{needs}
-use Rattle.reporting.proofs.Answered.{file-lent}
+use Rattle.reporting.proofs.Files.{file-lent}
 use Rattle.reporting.proofs.report_on.Statement.{statement}
 use Rattle.reporting.proofs.report_on.Tie as tie
 

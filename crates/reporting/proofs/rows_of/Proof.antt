@@ -1,6 +1,6 @@
 -- `reporting::rows_of` meets its contract. Assumes nothing.
 use borrow.Author.Needs.{needs}
-use Rattle.reporting.proofs.Answered.{file-lent}
+use Rattle.reporting.proofs.Files.{file-lent}
 use Rattle.reporting.proofs.rows_of.Statement.{statement}
 use Rattle.reporting.proofs.rows_of.Tie as tie
 

@@ -1,8 +1,8 @@
--- `reporting::facts::normal` meets its contract. Assumes nothing.
+-- `facts::normal` meets its contract. Assumes nothing.
 use borrow.Author.Needs.{needs}
-use Rattle.reporting.proofs.Answered.{normal-is}
-use Rattle.reporting.proofs.facts.normal.Statement.{statement}
-use Rattle.reporting.proofs.facts.normal.Tie as tie
+use Rattle.facts.proofs.Answered.{normal-is}
+use Rattle.facts.proofs.normal.Statement.{statement}
+use Rattle.facts.proofs.normal.Tie as tie
 
 pub normal-spec : {M : Type 1} → statement M
 normal-spec =

@@ -1,8 +1,8 @@
--- `reporting::facts::best` meets its contract. Assumes nothing.
+-- `facts::best` meets its contract. Assumes nothing.
 use borrow.Author.Needs.{needs}
-use Rattle.reporting.proofs.Answered.{best-is}
-use Rattle.reporting.proofs.facts.best.Statement.{statement}
-use Rattle.reporting.proofs.facts.best.Tie as tie
+use Rattle.facts.proofs.Answered.{best-is}
+use Rattle.facts.proofs.best.Statement.{statement}
+use Rattle.facts.proofs.best.Tie as tie
 
 pub best-spec : {M : Type 1} → statement M
 best-spec =

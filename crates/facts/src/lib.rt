@@ -1,15 +1,17 @@
-// The lines of the report. Each function makes one, at the start of the lent line, and returns where it ends.
+// Floor 4: the lines of the report. Each function makes one, at the start of the lent line, and returns where it ends.
 ghost use mathlib.Core.Path.{_≡_};
 ghost use mathlib.Core.List.{[]};
 ghost use mathlib.Core.Bool.{cond};
 ghost use Prim.Native.Nat.{_+_, _*_, _≤_, _<_};
 ghost use lib.ListN.{length, getD};
-ghost use Rattle.words.specs.Refusals.{longest};
-ghost use Rattle.lines.specs.Text.{fieldRoom, Says};
-ghost use Rattle.reporting.specs.Report as Report;
+ghost use Rattle.lines.specs.Text.{Says};
+ghost use Rattle.facts.specs.Report as Report;
+
+// The room of every line here: the longest lists the covers of the longest log (`lineRoom` of specs/).
+pub const LINE: usize = 8 + lines::FIELD * words::LONGEST;
 
 pub fn refused(no: u8, line: &mut [u8]) -> usize
-    requires { ⌜ 8 + fieldRoom * longest ≤ length (now line) ⌝ }
+    requires { ⌜ Report.lineRoom ≤ length (now line) ⌝ }
     ensures { λ r. ⌜ Says (now (line .exit)) r (Report.refusedLine no) ⌝ }
 {
     lines::line(line, b"refused", &[no as u16])

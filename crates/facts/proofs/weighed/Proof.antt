@@ -1,8 +1,8 @@
--- `reporting::facts::weighed` meets its contract. Assumes nothing.
+-- `facts::weighed` meets its contract. Assumes nothing.
 use borrow.Author.Needs.{needs}
-use Rattle.reporting.proofs.Answered.{weighed-within, weighed-room, weighed-is}
-use Rattle.reporting.proofs.facts.weighed.Statement.{statement}
-use Rattle.reporting.proofs.facts.weighed.Tie as tie
+use Rattle.facts.proofs.Answered.{weighed-within, weighed-room, weighed-is}
+use Rattle.facts.proofs.weighed.Statement.{statement}
+use Rattle.facts.proofs.weighed.Tie as tie
 
 pub weighed-spec : {M : Type 1} → statement M
 weighed-spec =

@@ -1,8 +1,8 @@
--- `reporting::facts::covers` meets its contract. Assumes nothing.
+-- `facts::covers` meets its contract. Assumes nothing.
 use borrow.Author.Needs.{needs}
-use Rattle.reporting.proofs.Answered.{covers-within, covers-room, covers-is}
-use Rattle.reporting.proofs.facts.covers.Statement.{statement}
-use Rattle.reporting.proofs.facts.covers.Tie as tie
+use Rattle.facts.proofs.Answered.{covers-within, covers-room, covers-is}
+use Rattle.facts.proofs.covers.Statement.{statement}
+use Rattle.facts.proofs.covers.Tie as tie
 
 pub covers-spec : {M : Type 1} → statement M
 covers-spec =

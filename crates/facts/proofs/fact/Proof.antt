@@ -1,11 +1,11 @@
--- `reporting::facts::fact` meets its contract. Assumes nothing.
+-- `facts::fact` meets its contract. Assumes nothing.
 use mathlib.Core.Path.{_≡_}
 use native.Mathlib.Omega.{arith}
 use borrow.Author.Needs.{needs}
-use Rattle.reporting.proofs.Answered.{fact-is}
-use Rattle.reporting.specs.Report.{report}
-use Rattle.reporting.proofs.facts.fact.Statement.{statement}
-use Rattle.reporting.proofs.facts.fact.Tie as tie
+use Rattle.facts.proofs.Answered.{fact-is}
+use Rattle.facts.specs.Report.{report}
+use Rattle.facts.proofs.fact.Statement.{statement}
+use Rattle.facts.proofs.fact.Tie as tie
 
 pub fact-spec : {M : Type 1} → statement M
 unfolding report

@@ -1,8 +1,8 @@
--- `reporting::facts::held` meets its contract. Assumes nothing.
+-- `facts::held` meets its contract. Assumes nothing.
 use borrow.Author.Needs.{needs}
-use Rattle.reporting.proofs.Answered.{held-is}
-use Rattle.reporting.proofs.facts.held.Statement.{statement}
-use Rattle.reporting.proofs.facts.held.Tie as tie
+use Rattle.facts.proofs.Answered.{held-is}
+use Rattle.facts.proofs.held.Statement.{statement}
+use Rattle.facts.proofs.held.Tie as tie
 
 pub held-spec : {M : Type 1} → statement M
 held-spec =

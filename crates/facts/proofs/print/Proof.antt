@@ -1,10 +1,10 @@
--- `reporting::facts::print` meets its contract. The loop's invariant is that the line keeps its room. Assumes nothing.
+-- `facts::print` meets its contract. The loop's invariant is that the line keeps its room. Assumes nothing.
 use borrow.Author.Needs.{needs}
 use Prim.Native.Nat.{_-_}
 use mathlib.Core.Path.{_≡_}
 use lib.ListN.{length}
-use Rattle.reporting.proofs.facts.print.Statement.{statement}
-use Rattle.reporting.proofs.facts.print.Tie as tie
+use Rattle.facts.proofs.print.Statement.{statement}
+use Rattle.facts.proofs.print.Tie as tie
 
 abbrev Inv-loop : tie.InvT-loop
 Inv-loop x line₀ k₀ line k = length line ≡ length line₀

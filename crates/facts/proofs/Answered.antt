@@ -27,7 +27,7 @@ use Rattle.words.proofs.Refusals.{Judged, accepted-yes, first-yes, first-no, }
 use Rattle.words.proofs.CoverLists.{coverList-le}
 use Rattle.words.proofs.Weighs.{used-places}
 use Rattle.lines.specs.Text.{bytes, decimal, line, fieldRoom, Says}
-use Rattle.reporting.specs.Report as R
+use Rattle.facts.specs.Report as R
 
 -- ---- an accepted log is refused by no call
 
@@ -49,26 +49,6 @@ module _ {n : ℕ} (j : Judged n) where
   two-zero : (s t : List ℕ) → n ≤ length s → n ≤ length t → tableNo n (length s ∷ length t ∷ []) ≡ 0
   unfolding tableNo firstNo fewer
   two-zero s t h g = simp (some, most, le-ltb (length s) n h, le-ltb (length t) n g)
-
--- ---- the file: the symbols of an accepted one are an accepted log
-
-first-passed : (b : Bool) (k : ℕ) (ts : List Refusal) → 0 < k → firstNo ((b, k) ∷ ts) ≡ 0 → (b ≡ false) × (firstNo ts ≡ 0)
-first-passed b k ts h e = by-test b (λ t. absurd (omega (arith, first-yes b k ts t))) (λ t. (t, first-no b k ts t ∙ e))
-
-file-judged : (f : List ℕ) → F.fileNo f ≡ 0 → Judged (length (F.symbols f))
-unfolding F.fileNo F.symbols
-file-judged f z =
-    let a = first-passed (ltb (length f) 3) 7 _ (omega arith) z in
-    let b = first-passed (not (eqb (getD f 0 0) 1)) 6 _ (omega arith) (a .1) in
-    let c = first-passed (eqb (F.fieldOf f) 0) 1 _ (omega arith) (b .1) in
-    let d = first-passed (ltb longest (F.fieldOf f)) 2 _ (omega arith) (c .1) in
-    let e = first-passed (not (eqb (length f) (3 + F.fieldOf f))) 7 _ (omega arith) (d .1) in
-    let size = eqb-true (length f) (3 + F.fieldOf f) (not-false _ (e .0)) in
-    let n : length (F.symbols f) ≡ F.fieldOf f = ap length (accepted-yes (F.fileNo f) (drop 3 f) [] z) ∙ simp length-drop (omega arith) in
-    let nz = eqb-false (F.fieldOf f) 0 (c .0) in record {
-      some = omega arith;
-      most = omega (arith, ltb-false longest (F.fieldOf f) (d .0));
-    }
 
 -- ---- the lines
 
@@ -138,7 +118,7 @@ module _ (x : List ℕ) (j : Judged (length x)) where
     covers-within =
         omega (arith, covers-used, ap length (et ∙ accepted-yes _ _ _ (table-zero j work fits)), length-append (W.coverList eqb x) (drop (length (W.coverList eqb x)) work))
 
-    pub covers-room : (m : ℕ) → 8 + fieldRoom * longest ≤ m → 6 + fieldRoom * length (part t k) + 1 ≤ m
+    pub covers-room : (m : ℕ) → R.lineRoom ≤ m → 6 + fieldRoom * length (part t k) + 1 ≤ m
     covers-room m h = omega (arith, ap length covers-part, coverList-le eqb x, j .most)
 
     pub covers-is : {l : List ℕ} {r : ℕ} → Says l r (line (bytes "covers") (part t k)) → Says l r (R.coversLine x)
@@ -167,7 +147,7 @@ module _ (x : List ℕ) (j : Judged (length x)) where
     weighed-within =
         omega (arith, weighed-used, weighed-few, ap (λ (b : Weighed). length (b .lens)) weighed-yes, length-places A.weighedPlaces 0 (W.weighed eqb x (length x)) weighed-few)
 
-    pub weighed-room : (m : ℕ) → 8 + fieldRoom * longest ≤ m → 7 + fieldRoom * length (part (a .lens) k) + 1 ≤ m
+    pub weighed-room : (m : ℕ) → R.lineRoom ≤ m → 7 + fieldRoom * length (part (a .lens) k) + 1 ≤ m
     weighed-room m h = omega (arith, ap length weighed-part, weighed-few)
 
     pub weighed-is : {l : List ℕ} {r : ℕ} → Says l r (line (bytes "weighed") (part (a .lens) k)) → Says l r (R.weighedLine x)
@@ -177,7 +157,3 @@ module _ (x : List ℕ) (j : Judged (length x)) where
 -- `fact`: k is the number of the line that was made
 pub fact-is : (i : ℕ) (x : List ℕ) {k : ℕ} {l : List ℕ} {r : ℕ} → k ≡ i → Says l r (getD (R.report x) i []) → Says l r (getD (R.report x) k [])
 fact-is i x e h = rw e h
-
--- `report_on` and `rows_of`: the symbols of an accepted file
-pub file-lent : (f : List ℕ) {k : ℕ} {x : List ℕ} → k ≡ F.fileNo f → k ≡ 0 → x ≡ F.symbols f → Judged (length x)
-file-lent f e z d = rw d (file-judged f (sym e ∙ z))

@@ -1,8 +1,8 @@
--- `reporting::facts::ceiling` meets its contract. Assumes nothing.
+-- `facts::ceiling` meets its contract. Assumes nothing.
 use borrow.Author.Needs.{needs}
-use Rattle.reporting.proofs.Answered.{ceiling-fits, ceiling-is}
-use Rattle.reporting.proofs.facts.ceiling.Statement.{statement}
-use Rattle.reporting.proofs.facts.ceiling.Tie as tie
+use Rattle.facts.proofs.Answered.{ceiling-fits, ceiling-is}
+use Rattle.facts.proofs.ceiling.Statement.{statement}
+use Rattle.facts.proofs.ceiling.Tie as tie
 
 pub ceiling-spec : {M : Type 1} → statement M
 ceiling-spec =
