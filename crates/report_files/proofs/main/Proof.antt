@@ -1,0 +1,25 @@
+-- `report_files::main` meets its contract. The measure is the number of arguments left. Assumes nothing.
+use Prim.Native.Nat.{_-_}
+use borrow.Author.Needs.{needs}
+use Rattle.report_files.proofs.main.Statement.{statement}
+use Rattle.report_files.proofs.main.Tie as tie
+
+abbrev Inv-loop : tie.InvT-loop
+Inv-loop most k₀ k = Unit {0}
+
+abbrev μ-loop : tie.MeasureT-loop
+μ-loop most k₀ k = most - k
+
+pub main-spec : {M : Type 1} → statement M
+main-spec =
+    tie.close
+    (tie.spec
+    Inv-loop
+    μ-loop
+    (λ c κs. search needs)
+    (λ c. search needs)
+    (λ c κs. search needs)
+    (λ c. search needs)
+    (λ c. search needs)
+    (λ c. search needs)
+    (λ c. search needs))
