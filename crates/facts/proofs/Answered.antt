@@ -23,7 +23,7 @@ use Rattle.words.proofs.Tests.{by-test}
 use Rattle.words.proofs.Search.{howMany-le}
 use Rattle.words.proofs.Tables.{Holds, written-holds}
 use Rattle.words.proofs.Places.{length-places}
-use Rattle.words.proofs.Refusals.{Judged, accepted-yes, first-yes, first-no, }
+use Rattle.words.proofs.Refusals.{Judged, accepted-yes, first-yes, first-no}
 use Rattle.words.proofs.CoverLists.{coverList-le}
 use Rattle.words.proofs.Weighs.{used-places}
 use Rattle.lines.specs.Text.{bytes, decimal, line, fieldRoom, Says}
