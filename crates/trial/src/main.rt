@@ -42,13 +42,15 @@ fn some_files() -> u64 {
 
 fn one_long(kind: u8) -> u64 {
     say(
-        b", 4096 readings, the first 100 and windows; border, prefix and limit at every row, the rest to row 400 and at every 199th:",
+        b", 4096 readings: border, prefix and limit at every row, the rest to row 400 and at every 199th, list of covers and total only by the cover tests and weighed lists of the finder itself; the first 100 and four windows in full:",
     );
     long::of(kind)
 }
 
 fn long_logs() -> u64 {
-    say(b"logs of 0, 1, 4096 and 4097 readings, every call:");
+    say(
+        b"logs of 0, 1, 4096 and 4097 readings, every call: border and prefix at every row, the rest to row 20 and at every 1999th, list of covers and total by the finder itself:",
+    );
     let z = long::edges();
     say(b"flat");
     let a = one_long(FLAT);
