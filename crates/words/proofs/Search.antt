@@ -293,11 +293,6 @@ module _ (p : ℕ → Bool) where
 -- ---- two tests: equal below n, one within the other, apart at one number alone
 
 module _ (p p′ : ℕ → Bool) where
-  pub all-same : (n : ℕ) → ((k : ℕ) → k < n → p k ≡ p′ k) → all p n ≡ all p′ n
-  unfolding all
-  all-same zero h = refl
-  all-same (suc n) h = let ih = all-same n (λ k l. h k (omega arith)) in rw (h n (omega arith), ih)
-
   pub greatest-same : (n : ℕ) → ((k : ℕ) → k < n → p k ≡ p′ k) → greatest p n ≡ greatest p′ n
   unfolding greatest
   greatest-same zero h = refl
