@@ -3,16 +3,21 @@ use mathlib.Core.Path.{_≡_, refl, sym, ap, _∙_}
 use mathlib.Core.List.{List, []}
 use Prim.Native.Nat.{ℕ}
 use lib.ListN.{length, drop}
-use Rattle.words.specs.Answers.{accepted, bestPatternNo, bestPatternPart}
+use Rattle.words.specs.declared.Pattern.{Pattern}
+use Rattle.words.specs.Answers.{bestPatternNo, patternAnswer}
 use Rattle.words.specs.PlantFile.{fileNo, symbols}
 use Rattle.words.proofs.Refusals.{accepted-yes, accepted-no}
 use Rattle.words.specs.declared.CoverTest.{CoverTest}
 use Rattle.words.specs.declared.CoverTest.the-variants.{Yes, No, Refused}
+use Rattle.finder.proofs.Patterns.{pattern-number, pattern-length}
+use Rattle.cabinet.specs.declared.Span.{Span}
 use Rattle.cabinet.specs.Faces.{coversOf, patternSpan, fileSpan}
 
-pub pattern-span : (x : List ℕ) {k : ℕ} {p : List ℕ} → k ≡ bestPatternNo x → p ≡ bestPatternPart x → record { number = k; start = 0; len = length p } ≡ patternSpan x
+pub pattern-span : (x : List ℕ) {p : Pattern} → p ≡ patternAnswer x → record { number = p .number; start = 0; len = p .len } ≡ patternSpan x
 unfolding patternSpan
-pattern-span x e d = rw (e, d)
+pattern-span x {p} e =
+    let span : ℕ → ℕ → Span = λ k l. record { number = k; start = 0; len = l } in
+    ap (λ (k : ℕ). span k (p .len)) (pattern-number x e) ∙ ap (span (bestPatternNo x)) (pattern-length x e)
 
 module _ (f : List ℕ) {k : ℕ} (e : k ≡ fileNo f) where
   pub file-refused : (k ≡ 0 → ⊥) → record { number = k; start = 0; len = 0 } ≡ fileSpan f

@@ -1,6 +1,7 @@
 // Floor 4: the C face. Each call of floor 3 under a C name, with the same promise; a part is answered as its start and its length.
 ghost use mathlib.Core.Path.{_≡_};
-ghost use Rattle.words.specs.Tables.{borderRow, prefixRow, coverRow, bestRow, countRow};
+ghost use mathlib.Core.List.{[], _∷_};
+ghost use Rattle.words.specs.Tables.{borderRow, prefixRow, coverRow};
 ghost use Rattle.words.specs.Answers as Answers;
 ghost use Rattle.cabinet.specs.Faces.{coversOf, patternSpan, fileSpan};
 
@@ -21,24 +22,21 @@ pub struct Span {
 
 #[no_mangle]
 pub extern "C" fn finder_border_table(x: &[u8], t: &mut [u16]) -> words::Written
-    ensures answer { λ r. ⌜ r ≡ Answers.tableAnswer (now (x .entry)) (now (t .entry)) ⌝ }
-    ensures table { λ _. ⌜ now (t .exit) ≡ Answers.tableAfter borderRow (now (x .entry)) (now (t .entry)) ⌝ }
+    ensures { λ r. ⌜ record { answer = r; tables = now (t .exit) ∷ [] } ≡ Answers.tableOutcome borderRow (now (x .entry)) (now (t .entry)) ⌝ }
 {
     finder::border_table(x, t)
 }
 
 #[no_mangle]
 pub extern "C" fn finder_prefix_table(x: &[u8], t: &mut [u16]) -> words::Written
-    ensures answer { λ r. ⌜ r ≡ Answers.tableAnswer (now (x .entry)) (now (t .entry)) ⌝ }
-    ensures table { λ _. ⌜ now (t .exit) ≡ Answers.tableAfter prefixRow (now (x .entry)) (now (t .entry)) ⌝ }
+    ensures { λ r. ⌜ record { answer = r; tables = now (t .exit) ∷ [] } ≡ Answers.tableOutcome prefixRow (now (x .entry)) (now (t .entry)) ⌝ }
 {
     finder::prefix_table(x, t)
 }
 
 #[no_mangle]
 pub extern "C" fn finder_cover_table(x: &[u8], t: &mut [u16]) -> words::Written
-    ensures answer { λ r. ⌜ r ≡ Answers.tableAnswer (now (x .entry)) (now (t .entry)) ⌝ }
-    ensures table { λ _. ⌜ now (t .exit) ≡ Answers.tableAfter coverRow (now (x .entry)) (now (t .entry)) ⌝ }
+    ensures { λ r. ⌜ record { answer = r; tables = now (t .exit) ∷ [] } ≡ Answers.tableOutcome coverRow (now (x .entry)) (now (t .entry)) ⌝ }
 {
     finder::cover_table(x, t)
 }
@@ -49,9 +47,7 @@ pub extern "C" fn finder_enhanced_table(
     best: &mut [u16],
     count: &mut [u16],
 ) -> words::Weighing
-    ensures answer { λ r. ⌜ r ≡ Answers.enhancedAnswer (now (x .entry)) (now (best .entry)) (now (count .entry)) ⌝ }
-    ensures best { λ _. ⌜ now (best .exit) ≡ Answers.columnAfter (Answers.enhancedNo (now (x .entry)) (now (best .entry)) (now (count .entry))) bestRow (now (x .entry)) (now (best .entry)) ⌝ }
-    ensures count { λ _. ⌜ now (count .exit) ≡ Answers.columnAfter (Answers.enhancedNo (now (x .entry)) (now (best .entry)) (now (count .entry))) countRow (now (x .entry)) (now (count .entry)) ⌝ }
+    ensures { λ r. ⌜ record { answer = r; tables = now (best .exit) ∷ now (count .exit) ∷ [] } ≡ Answers.enhancedOutcome (now (x .entry)) (now (best .entry)) (now (count .entry)) ⌝ }
 {
     finder::enhanced_table(x, best, count)
 }
@@ -67,12 +63,7 @@ pub extern "C" fn finder_window(
     best: &mut [u16],
     count: &mut [u16],
 ) -> words::Weighing
-    ensures answer { λ r. ⌜ r ≡ Answers.windowAnswer (Answers.windowCode (now (x .entry)) a m (now (border .entry)) (now (prefix .entry)) (now (cover .entry)) (now (best .entry)) (now (count .entry))) (now (x .entry)) a m ⌝ }
-    ensures border { λ _. ⌜ now (border .exit) ≡ Answers.windowAfter (Answers.windowCode (now (x .entry)) a m (now (border .entry)) (now (prefix .entry)) (now (cover .entry)) (now (best .entry)) (now (count .entry))) borderRow (now (x .entry)) a m (now (border .entry)) ⌝ }
-    ensures prefix { λ _. ⌜ now (prefix .exit) ≡ Answers.windowAfter (Answers.windowCode (now (x .entry)) a m (now (border .entry)) (now (prefix .entry)) (now (cover .entry)) (now (best .entry)) (now (count .entry))) prefixRow (now (x .entry)) a m (now (prefix .entry)) ⌝ }
-    ensures cover { λ _. ⌜ now (cover .exit) ≡ Answers.windowAfter (Answers.windowCode (now (x .entry)) a m (now (border .entry)) (now (prefix .entry)) (now (cover .entry)) (now (best .entry)) (now (count .entry))) coverRow (now (x .entry)) a m (now (cover .entry)) ⌝ }
-    ensures best { λ _. ⌜ now (best .exit) ≡ Answers.windowAfter (Answers.windowCode (now (x .entry)) a m (now (border .entry)) (now (prefix .entry)) (now (cover .entry)) (now (best .entry)) (now (count .entry))) bestRow (now (x .entry)) a m (now (best .entry)) ⌝ }
-    ensures count { λ _. ⌜ now (count .exit) ≡ Answers.windowAfter (Answers.windowCode (now (x .entry)) a m (now (border .entry)) (now (prefix .entry)) (now (cover .entry)) (now (best .entry)) (now (count .entry))) countRow (now (x .entry)) a m (now (count .entry)) ⌝ }
+    ensures { λ r. ⌜ record { answer = r; tables = now (border .exit) ∷ now (prefix .exit) ∷ now (cover .exit) ∷ now (best .exit) ∷ now (count .exit) ∷ [] } ≡ Answers.windowOutcome (now (x .entry)) a m (now (border .entry)) (now (prefix .entry)) (now (cover .entry)) (now (best .entry)) (now (count .entry)) ⌝ }
 {
     finder::window(x, a, m, border, prefix, cover, best, count)
 }
@@ -93,8 +84,7 @@ pub extern "C" fn finder_breakdown(x: &[u8]) -> words::Breakdown
 
 #[no_mangle]
 pub extern "C" fn finder_cover_list(x: &[u8], t: &mut [u16]) -> words::Listed
-    ensures answer { λ r. ⌜ r ≡ Answers.coverListAnswer (now (x .entry)) (now (t .entry)) ⌝ }
-    ensures table { λ _. ⌜ now (t .exit) ≡ Answers.coverListAfter (now (x .entry)) (now (t .entry)) ⌝ }
+    ensures { λ r. ⌜ record { answer = r; tables = now (t .exit) ∷ [] } ≡ Answers.coverListOutcome (now (x .entry)) (now (t .entry)) ⌝ }
 {
     finder::cover_list(x, t)
 }
@@ -131,12 +121,11 @@ pub extern "C" fn finder_weighed_list(x: &[u8], i: usize) -> words::Weighed
 pub extern "C" fn finder_best_pattern(x: &[u8]) -> Span
     ensures { λ r. ⌜ r ≡ patternSpan (now (x .entry)) ⌝ }
 {
-    let number = finder::best_pattern_number(x);
-    let part = finder::best_pattern(x);
+    let p = finder::pattern(x);
     Span {
-        number: number,
+        number: p.number,
         start: 0,
-        len: part.len(),
+        len: p.len,
     }
 }
 

@@ -1,4 +1,4 @@
--- Any two outcomes that a call's contract allows are equal: each contract gives the whole outcome as an equation. Assumes nothing.
+-- Any two outcomes that a call's contract allows are equal: each contract is an equation with a definition, which gives the whole outcome. Assumes nothing.
 use mathlib.Core.Path.{_≡_}
 use mathlib.Core.List.{List}
 use Prim.Native.Nat.{ℕ}
@@ -8,25 +8,27 @@ use Rattle.words.specs.declared.Listed.{Listed}
 use Rattle.words.specs.declared.Normal.{Normal}
 use Rattle.words.specs.declared.Breakdown.{Breakdown}
 use Rattle.words.specs.declared.Weighed.{Weighed}
+use Rattle.words.specs.declared.Pattern.{Pattern}
 use Rattle.words.specs.declared.CoverTest.{CoverTest}
-use Rattle.words.specs.Tables.{Column, bestRow, countRow}
+use Rattle.words.specs.Tables.{Column}
 use Rattle.words.specs.Answers as A
 use Rattle.words.proofs.Refusals.{unique}
-use Rattle.finder.proofs.Answers.{Windowed}
 
--- border_table, prefix_table and cover_table, with their columns
-pub one-table : (f : Column) (x t : List ℕ) {r r′ : Written} {s s′ : List ℕ}
-    → (r ≡ A.tableAnswer x t) × (s ≡ A.tableAfter f x t) → (r′ ≡ A.tableAnswer x t) × (s′ ≡ A.tableAfter f x t) → (r ≡ r′) × (s ≡ s′)
-one-table f x t a b = (unique (a .0) (b .0), unique (a .1) (b .1))
+-- with tables: the answer and every table afterwards. border_table, prefix_table and cover_table, with their columns
+pub one-table : (f : Column) (x t : List ℕ) {o o′ : A.Outcome Written} → o ≡ A.tableOutcome f x t → o′ ≡ A.tableOutcome f x t → o ≡ o′
+one-table f x t = unique
 
--- enhanced_table
-pub one-enhanced : (x b c : List ℕ) {r r′ : Weighing} {s s′ t t′ : List ℕ}
-    → (r ≡ A.enhancedAnswer x b c) × (s ≡ A.columnAfter (A.enhancedNo x b c) bestRow x b) × (t ≡ A.columnAfter (A.enhancedNo x b c) countRow x c)
-    → (r′ ≡ A.enhancedAnswer x b c) × (s′ ≡ A.columnAfter (A.enhancedNo x b c) bestRow x b) × (t′ ≡ A.columnAfter (A.enhancedNo x b c) countRow x c)
-    → (r ≡ r′) × (s ≡ s′) × (t ≡ t′)
-one-enhanced x b c p q = (unique (p .0) (q .0), unique (p .1) (q .1), unique (p .2) (q .2))
+pub one-enhanced : (x b c : List ℕ) {o o′ : A.Outcome Weighing} → o ≡ A.enhancedOutcome x b c → o′ ≡ A.enhancedOutcome x b c → o ≡ o′
+one-enhanced x b c = unique
 
--- normal_form, weighed_list, cover_test, breakdown
+pub one-window : (x : List ℕ) (a m : ℕ) (b p c e k : List ℕ) {o o′ : A.Outcome Weighing}
+    → o ≡ A.windowOutcome x a m b p c e k → o′ ≡ A.windowOutcome x a m b p c e k → o ≡ o′
+one-window x a m b p c e k = unique
+
+pub one-list : (x t : List ℕ) {o o′ : A.Outcome Listed} → o ≡ A.coverListOutcome x t → o′ ≡ A.coverListOutcome x t → o ≡ o′
+one-list x t = unique
+
+-- without: normal_form, weighed_list, cover_test, breakdown, pattern
 pub one-normal : (x : List ℕ) (i : ℕ) {r r′ : Normal} → r ≡ A.normalAnswer x i → r′ ≡ A.normalAnswer x i → r ≡ r′
 one-normal x i = unique
 
@@ -39,26 +41,11 @@ one-test x i q = unique
 pub one-breakdown : (x : List ℕ) {r r′ : Breakdown} → r ≡ A.breakdownAnswer x → r′ ≡ A.breakdownAnswer x → r ≡ r′
 one-breakdown x = unique
 
--- cover_list
-pub one-list : (x t : List ℕ) {r r′ : Listed} {s s′ : List ℕ}
-    → (r ≡ A.coverListAnswer x t) × (s ≡ A.coverListAfter x t) → (r′ ≡ A.coverListAnswer x t) × (s′ ≡ A.coverListAfter x t) → (r ≡ r′) × (s ≡ s′)
-one-list x t a b = (unique (a .0) (b .0), unique (a .1) (b .1))
+pub one-length : (x : List ℕ) {r r′ : Pattern} → r ≡ A.patternAnswer x → r′ ≡ A.patternAnswer x → r ≡ r′
+one-length x = unique
 
 -- best_pattern and best_pattern_number: the part's readings and its place, and the number
 pub one-pattern : (x : List ℕ) (at : ℕ × ℕ) {p p′ : List ℕ} {l l′ : ℕ × ℕ} {k k′ : ℕ}
     → (p ≡ A.bestPatternPart x) × (l ≡ at) × (k ≡ A.bestPatternNo x) → (p′ ≡ A.bestPatternPart x) × (l′ ≡ at) × (k′ ≡ A.bestPatternNo x)
     → (p ≡ p′) × (l ≡ l′) × (k ≡ k′)
 one-pattern x at a b = (unique (a .0) (b .0), unique (a .1) (b .1), unique (a .2) (b .2))
-
--- window
-pub one-window : (x : List ℕ) (a m : ℕ) (b p c e k : List ℕ) {r r′ : Weighing} {b₁ p₁ c₁ e₁ k₁ b₂ p₂ c₂ e₂ k₂ : List ℕ}
-    → Windowed x a m b p c e k r b₁ p₁ c₁ e₁ k₁ → Windowed x a m b p c e k r′ b₂ p₂ c₂ e₂ k₂
-    → (r ≡ r′) × (b₁ ≡ b₂) × (p₁ ≡ p₂) × (c₁ ≡ c₂) × (e₁ ≡ e₂) × (k₁ ≡ k₂)
-one-window x a m b p c e k s t = (
-  unique (s .0) (t .0),
-  unique (s .1 .0) (t .1 .0),
-  unique (s .1 .1 .0) (t .1 .1 .0),
-  unique (s .1 .1 .1 .0) (t .1 .1 .1 .0),
-  unique (s .1 .1 .1 .1 .0) (t .1 .1 .1 .1 .0),
-  unique (s .1 .1 .1 .1 .1) (t .1 .1 .1 .1 .1),
-)

@@ -1,16 +1,15 @@
 // Floor 3: the calls. Each takes every log and every lent table, refuses in the order of `refusals`, and hands an accepted log to floor 2.
 ghost use mathlib.Core.Path.{_≡_};
+ghost use mathlib.Core.List.{[], _∷_};
 ghost use denote.Ref.{ptr};
-ghost use Rattle.words.specs.Tables.{borderRow, prefixRow, coverRow, bestRow, countRow};
+ghost use Rattle.words.specs.Tables.{borderRow, prefixRow, coverRow};
 ghost use Rattle.words.specs.Answers as Answers;
-ghost use Rattle.finder.specs.Steps.{patternLength};
 
 // ---- tables
 
 // Writes the border table of x into the first rows of t.
 pub fn border_table(x: &[u8], t: &mut [u16]) -> words::Written
-    ensures answer { λ r. ⌜ r ≡ Answers.tableAnswer (now (x .entry)) (now (t .entry)) ⌝ }
-    ensures table { λ _. ⌜ now (t .exit) ≡ Answers.tableAfter borderRow (now (x .entry)) (now (t .entry)) ⌝ }
+    ensures { λ r. ⌜ record { answer = r; tables = now (t .exit) ∷ [] } ≡ Answers.tableOutcome borderRow (now (x .entry)) (now (t .entry)) ⌝ }
 {
     let no = refusals::table(x.len(), t.len());
     if no != 0 {
@@ -22,8 +21,7 @@ pub fn border_table(x: &[u8], t: &mut [u16]) -> words::Written
 
 // Writes the prefix table of x into the first rows of t.
 pub fn prefix_table(x: &[u8], t: &mut [u16]) -> words::Written
-    ensures answer { λ r. ⌜ r ≡ Answers.tableAnswer (now (x .entry)) (now (t .entry)) ⌝ }
-    ensures table { λ _. ⌜ now (t .exit) ≡ Answers.tableAfter prefixRow (now (x .entry)) (now (t .entry)) ⌝ }
+    ensures { λ r. ⌜ record { answer = r; tables = now (t .exit) ∷ [] } ≡ Answers.tableOutcome prefixRow (now (x .entry)) (now (t .entry)) ⌝ }
 {
     let no = refusals::table(x.len(), t.len());
     if no != 0 {
@@ -35,8 +33,7 @@ pub fn prefix_table(x: &[u8], t: &mut [u16]) -> words::Written
 
 // Writes the cover table of x into the first rows of t.
 pub fn cover_table(x: &[u8], t: &mut [u16]) -> words::Written
-    ensures answer { λ r. ⌜ r ≡ Answers.tableAnswer (now (x .entry)) (now (t .entry)) ⌝ }
-    ensures table { λ _. ⌜ now (t .exit) ≡ Answers.tableAfter coverRow (now (x .entry)) (now (t .entry)) ⌝ }
+    ensures { λ r. ⌜ record { answer = r; tables = now (t .exit) ∷ [] } ≡ Answers.tableOutcome coverRow (now (x .entry)) (now (t .entry)) ⌝ }
 {
     let no = refusals::table(x.len(), t.len());
     if no != 0 {
@@ -48,9 +45,7 @@ pub fn cover_table(x: &[u8], t: &mut [u16]) -> words::Written
 
 // Writes Best and Count of each prefix of x into the first rows of the two tables, and returns the weighed total.
 pub fn enhanced_table(x: &[u8], best: &mut [u16], count: &mut [u16]) -> words::Weighing
-    ensures answer { λ r. ⌜ r ≡ Answers.enhancedAnswer (now (x .entry)) (now (best .entry)) (now (count .entry)) ⌝ }
-    ensures best { λ _. ⌜ now (best .exit) ≡ Answers.columnAfter (Answers.enhancedNo (now (x .entry)) (now (best .entry)) (now (count .entry))) bestRow (now (x .entry)) (now (best .entry)) ⌝ }
-    ensures count { λ _. ⌜ now (count .exit) ≡ Answers.columnAfter (Answers.enhancedNo (now (x .entry)) (now (best .entry)) (now (count .entry))) countRow (now (x .entry)) (now (count .entry)) ⌝ }
+    ensures { λ r. ⌜ record { answer = r; tables = now (best .exit) ∷ now (count .exit) ∷ [] } ≡ Answers.enhancedOutcome (now (x .entry)) (now (best .entry)) (now (count .entry)) ⌝ }
 {
     let no = refusals::two_tables(x.len(), best.len(), count.len());
     if no != 0 {
@@ -146,8 +141,7 @@ pub fn breakdown(x: &[u8]) -> words::Breakdown
 
 // Writes all covers of x, rising, into the first entries of t, and returns how many they are.
 pub fn cover_list(x: &[u8], t: &mut [u16]) -> words::Listed
-    ensures answer { λ r. ⌜ r ≡ Answers.coverListAnswer (now (x .entry)) (now (t .entry)) ⌝ }
-    ensures table { λ _. ⌜ now (t .exit) ≡ Answers.coverListAfter (now (x .entry)) (now (t .entry)) ⌝ }
+    ensures { λ r. ⌜ record { answer = r; tables = now (t .exit) ∷ [] } ≡ Answers.coverListOutcome (now (x .entry)) (now (t .entry)) ⌝ }
 {
     let no = refusals::table(x.len(), t.len());
     if no != 0 {
@@ -163,26 +157,27 @@ pub fn cover_list(x: &[u8], t: &mut [u16]) -> words::Listed
     }
 }
 
-// The number of the best pattern: 0 where there is one.
+// The number of the best pattern and, where it is 0, the pattern's length.
+pub fn pattern(x: &[u8]) -> words::Pattern
+    ensures { λ r. ⌜ r ≡ Answers.patternAnswer (now (x .entry)) ⌝ }
+{
+    let no = refusals::log(x.len());
+    if no != 0 {
+        return words::Pattern { number: no, len: 0 };
+    }
+    let b = judged::best(x);
+    words::Pattern {
+        number: refusals::best(x.len(), b),
+        len: b,
+    }
+}
+
+// The number alone: 0 where there is a best pattern.
 pub fn best_pattern_number(x: &[u8]) -> u8
     ensures { λ r. ⌜ r ≡ Answers.bestPatternNo (now (x .entry)) ⌝ }
 {
-    let no = refusals::log(x.len());
-    if no != 0 {
-        return no;
-    }
-    refusals::best(x.len(), judged::best(x))
-}
-
-// The length of the best pattern; 0 where the call is refused.
-fn pattern_length(x: &[u8]) -> usize
-    ensures { λ r. ⌜ r ≡ patternLength (now (x .entry)) ⌝ }
-{
-    let no = refusals::log(x.len());
-    if no != 0 {
-        return 0;
-    }
-    judged::best(x)
+    let p = pattern(x);
+    p.number
 }
 
 // The best pattern, as that part of the caller's log, which lies where the log begins; the empty part where the call is refused.
@@ -190,7 +185,8 @@ pub fn best_pattern(x: &[u8]) -> &[u8]
     ensures part { λ r. ⌜ now r ≡ Answers.bestPatternPart (now (x .entry)) ⌝ }
     ensures place { λ r. ⌜ ptr r ≡ ptr (x .entry) ⌝ }
 {
-    let b = pattern_length(x);
+    let p = pattern(x);
+    let b = p.len;
     &x[0..b]
 }
 
@@ -208,12 +204,7 @@ pub fn window(
     best: &mut [u16],
     count: &mut [u16],
 ) -> words::Weighing
-    ensures answer { λ r. ⌜ r ≡ Answers.windowAnswer (Answers.windowCode (now (x .entry)) a m (now (border .entry)) (now (prefix .entry)) (now (cover .entry)) (now (best .entry)) (now (count .entry))) (now (x .entry)) a m ⌝ }
-    ensures border { λ _. ⌜ now (border .exit) ≡ Answers.windowAfter (Answers.windowCode (now (x .entry)) a m (now (border .entry)) (now (prefix .entry)) (now (cover .entry)) (now (best .entry)) (now (count .entry))) borderRow (now (x .entry)) a m (now (border .entry)) ⌝ }
-    ensures prefix { λ _. ⌜ now (prefix .exit) ≡ Answers.windowAfter (Answers.windowCode (now (x .entry)) a m (now (border .entry)) (now (prefix .entry)) (now (cover .entry)) (now (best .entry)) (now (count .entry))) prefixRow (now (x .entry)) a m (now (prefix .entry)) ⌝ }
-    ensures cover { λ _. ⌜ now (cover .exit) ≡ Answers.windowAfter (Answers.windowCode (now (x .entry)) a m (now (border .entry)) (now (prefix .entry)) (now (cover .entry)) (now (best .entry)) (now (count .entry))) coverRow (now (x .entry)) a m (now (cover .entry)) ⌝ }
-    ensures best { λ _. ⌜ now (best .exit) ≡ Answers.windowAfter (Answers.windowCode (now (x .entry)) a m (now (border .entry)) (now (prefix .entry)) (now (cover .entry)) (now (best .entry)) (now (count .entry))) bestRow (now (x .entry)) a m (now (best .entry)) ⌝ }
-    ensures count { λ _. ⌜ now (count .exit) ≡ Answers.windowAfter (Answers.windowCode (now (x .entry)) a m (now (border .entry)) (now (prefix .entry)) (now (cover .entry)) (now (best .entry)) (now (count .entry))) countRow (now (x .entry)) a m (now (count .entry)) ⌝ }
+    ensures { λ r. ⌜ record { answer = r; tables = now (border .exit) ∷ now (prefix .exit) ∷ now (cover .exit) ∷ now (best .exit) ∷ now (count .exit) ∷ [] } ≡ Answers.windowOutcome (now (x .entry)) a m (now (border .entry)) (now (prefix .entry)) (now (cover .entry)) (now (best .entry)) (now (count .entry)) ⌝ }
 {
     let no = refusals::window(
         x.len(),

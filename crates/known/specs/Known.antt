@@ -4,19 +4,20 @@ use Prim.Native.Nat.{ℕ, suc}
 use Prim.Native.String.{String}
 use Prim.Native.Char.{code}
 use lib.Dec.{eqb}
-use lib.ListN.{length, take, replicate}
+use lib.ListN.{length, getD, take, replicate}
 use mathlib.Core.Path.{_≡_}
+use Rattle.words.specs.declared.Weighing.{Weighing}
 use Rattle.words.specs.Words as W
 use Rattle.words.specs.Tables as T
 use Rattle.words.specs.Answers as A
 
--- What may be asked of a string. `weighed i` and `limit i`: at i. `window a m c`: column c of a lent table of twelve entries 77 after that window;
+-- What may be asked of a string. `weighed i` and `limit i`: at i. `window a m k`: the table after the first k, of twelve entries 77, after that window;
 -- `windowRefused a m`: the number of a refused window, in tables of twelve entries; `bestRefused`: the number of the best pattern
 pub data Asked : Type 0 where
   border prefix cover best count normal covers breakdown bestRefused : Asked
   weighed limit : ℕ → Asked
   windowRefused : ℕ → ℕ → Asked
-  window : ℕ → ℕ → T.Column → Asked
+  window : ℕ → ℕ → ℕ → Asked
 
 infix 3 _gives_
 pub data Claim : Type 0 where
@@ -31,12 +32,12 @@ unfoldable pub bytes : String → List ℕ
 bytes String.[] = []
 bytes (String._∷_ c s) = code c ∷ bytes s
 
--- the number of a window with five tables of twelve entries
+-- what a window with five tables of twelve entries leaves
 abbrev pub twelve : List ℕ
 twelve = replicate 12 77
 
-abbrev pub windowNumber : List ℕ → ℕ → ℕ → ℕ
-windowNumber x a m = A.windowCode x a m twelve twelve twelve twelve twelve
+abbrev pub windowed : List ℕ → ℕ → ℕ → A.Outcome Weighing
+windowed x a m = A.windowOutcome x a m twelve twelve twelve twelve twelve
 
 unfoldable pub answer : List ℕ → Asked → List ℕ
 answer x border = T.tabulate (T.borderRow x) (length x)
@@ -50,8 +51,8 @@ answer x breakdown = let b = A.breakdownAnswer x in take (b .used) (map (λ p. p
 answer x bestRefused = A.bestPatternNo x ∷ []
 answer x (weighed i) = W.weighed eqb x i
 answer x (limit i) = W.limit i ∷ []
-answer x (windowRefused a m) = windowNumber x a m ∷ []
-answer x (window a m c) = A.windowAfter (windowNumber x a m) c x a m twelve
+answer x (windowRefused a m) = windowed x a m .answer .number ∷ []
+answer x (window a m k) = getD (windowed x a m .tables) k []
 
 -- what the row asks, answered by the definitions, is what it says
 unfoldable pub asked : Claim → Asked
@@ -116,10 +117,10 @@ rows =
     ∷ (count gives 0 ∷ 0 ∷ 2 ∷ 4 ∷ 5 ∷ 4 ∷ 6 ∷ 8 ∷ 8 ∷ 10 ∷ [])
     ∷ (windowRefused 5 6 gives 3 ∷ [])
     ∷ (windowRefused 10 0 gives 3 ∷ [])
-    ∷ (window 5 5 T.borderRow gives 77 ∷ 77 ∷ 77 ∷ 77 ∷ 77 ∷ 0 ∷ 0 ∷ 1 ∷ 2 ∷ 3 ∷ 77 ∷ 77 ∷ [])
-    ∷ (window 5 5 T.coverRow gives 77 ∷ 77 ∷ 77 ∷ 77 ∷ 77 ∷ 0 ∷ 0 ∷ 0 ∷ 2 ∷ 3 ∷ 77 ∷ 77 ∷ [])
-    ∷ (window 5 5 T.bestRow gives 77 ∷ 77 ∷ 77 ∷ 77 ∷ 77 ∷ 0 ∷ 0 ∷ 1 ∷ 2 ∷ 3 ∷ 77 ∷ 77 ∷ [])
-    ∷ (window 5 5 T.countRow gives 77 ∷ 77 ∷ 77 ∷ 77 ∷ 77 ∷ 0 ∷ 0 ∷ 2 ∷ 4 ∷ 5 ∷ 77 ∷ 77 ∷ [])
+    ∷ (window 5 5 0 gives 77 ∷ 77 ∷ 77 ∷ 77 ∷ 77 ∷ 0 ∷ 0 ∷ 1 ∷ 2 ∷ 3 ∷ 77 ∷ 77 ∷ [])
+    ∷ (window 5 5 2 gives 77 ∷ 77 ∷ 77 ∷ 77 ∷ 77 ∷ 0 ∷ 0 ∷ 0 ∷ 2 ∷ 3 ∷ 77 ∷ 77 ∷ [])
+    ∷ (window 5 5 3 gives 77 ∷ 77 ∷ 77 ∷ 77 ∷ 77 ∷ 0 ∷ 0 ∷ 1 ∷ 2 ∷ 3 ∷ 77 ∷ 77 ∷ [])
+    ∷ (window 5 5 4 gives 77 ∷ 77 ∷ 77 ∷ 77 ∷ 77 ∷ 0 ∷ 0 ∷ 2 ∷ 4 ∷ 5 ∷ 77 ∷ 77 ∷ [])
     ∷ [])
     ∷ row "P7" "abaababaababa"
     ((normal gives 5 ∷ 3 ∷ 2 ∷ [])

@@ -109,17 +109,16 @@ module _ (n : ℕ) {k : ℕ} (e : k ≡ logNo n) where
         unfolding windowNo fewer place
         window-fits s = first-none ∙ first-no (ltb room (a + m) || false) 4 [] (simp (le-ltb room (a + m) s)) ∙ first-no place 3 _ in-window ∙ log-passed n _ (sym e ∙ z)
 
--- ---- of several tables the smallest decides
+-- ---- of two tables, r and s, the smaller decides: so of any number of them the smallest, one after the other
 
-pub two-tables : (n a b : ℕ) {m r : ℕ} → m ≡ min a b → r ≡ tableNo n (m ∷ []) → r ≡ tableNo n (a ∷ b ∷ [])
-unfolding tableNo firstNo
-two-tables n a b d e = rw (fewer-least a b [] n, ← d) e
+module _ (n r s : ℕ) (rs : List ℕ) {m k : ℕ} (d : m ≡ min r s) where
+  pub table-less : k ≡ tableNo n (m ∷ rs) → k ≡ tableNo n (r ∷ s ∷ rs)
+  unfolding tableNo firstNo
+  table-less e = rw (fewer-least r s rs n, ← d) e
 
-pub five-tables : (n a m r1 r2 r3 r4 r5 : ℕ) {s2 s3 s4 s5 r : ℕ} → s2 ≡ min r1 r2 → s3 ≡ min s2 r3 → s4 ≡ min s3 r4 → s5 ≡ min s4 r5
-    → r ≡ windowNo n a m (s5 ∷ []) → r ≡ windowNo n a m (r1 ∷ r2 ∷ r3 ∷ r4 ∷ r5 ∷ [])
-unfolding windowNo firstNo
-five-tables n a m r1 r2 r3 r4 r5 d2 d3 d4 d5 e =
-    rw (fewer-least r1 r2 (r3 ∷ r4 ∷ r5 ∷ []) (a + m), ← d2, fewer-least _ r3 (r4 ∷ r5 ∷ []) (a + m), ← d3, fewer-least _ r4 (r5 ∷ []) (a + m), ← d4, fewer-least _ r5 [] (a + m), ← d5) e
+  pub window-less : (a l : ℕ) → k ≡ windowNo n a l (m ∷ rs) → k ≡ windowNo n a l (r ∷ s ∷ rs)
+  unfolding windowNo firstNo
+  window-less a l e = rw (fewer-least r s rs (a + l), ← d) e
 
 -- ---- `cover_test`, over `prefix`
 

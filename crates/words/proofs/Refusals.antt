@@ -1,13 +1,15 @@
 -- Refusals: what an accepted call may rely on, and the two ways of an answer. Assumes nothing.
 use mathlib.Core.Bool.{Bool, true, false, cond, _||_}
-use mathlib.Core.Path.{_≡_, refl, sym, _∙_}
-use mathlib.Core.List.{List, [], _∷_}
-use Prim.Native.Nat.{ℕ, _+_, _≤_, _<_, min}
+use mathlib.Core.Path.{_≡_, refl, sym, ap, _∙_}
+use mathlib.Core.List.{List, [], _∷_, map}
+use Prim.Native.Nat.{ℕ, zero, suc, _+_, _≤_, _<_, min}
+use native.Mathlib.Nat.{not-suc-le-zero}
 use native.Mathlib.Omega.{arith}
 use lib.Dec.{eqb, ltb}
+use lib.ListN.{length, getD}
 use borrow.Author.Tests.{eqb-false, ltb-false, ltb-true, le-ltb, eq-eqb, ne-eqb}
 use Rattle.words.specs.Refusals.{Refusal, firstNo, empty, long, fewer, longest, outside, tableNo, logNo, prefixNo, coverTestNo, bestNo, windowNo}
-use Rattle.words.specs.Answers.{accepted}
+use Rattle.words.specs.Answers.{accepted, answer, Outcome, Lent, outcome}
 use Rattle.words.proofs.Tests.{by-test}
 
 -- any two outcomes that a contract allows are equal: each call's contract gives its whole outcome as an equation
@@ -22,6 +24,39 @@ module _ {A : Type 0} where
   pub accepted-no : (k : ℕ) (v r : A) → (k ≡ 0 → ⊥) → accepted k v r ≡ r
   unfolding accepted
   accepted-no k v r e = rw (ne-eqb k 0 e)
+
+-- ---- the two ways of a call, over its number and what it answers on each
+
+module _ {A : Type 0} (code : ℕ) (value : A) (refusal : ℕ → A) where
+  pub answer-yes : code ≡ 0 → answer code value refusal ≡ value
+  unfolding answer
+  answer-yes z = accepted-yes code value (refusal code) z
+
+  pub answer-no : (code ≡ 0 → ⊥) → answer code value refusal ≡ refusal code
+  unfolding answer
+  answer-no nz = accepted-no code value (refusal code) nz
+
+  -- as the code of a call takes them: k is the number that it found
+  pub refused : {k : ℕ} → k ≡ code → (k ≡ 0 → ⊥) → refusal k ≡ answer code value refusal
+  refused e nz = ap refusal e ∙ sym (answer-no (λ z. nz (e ∙ z)))
+
+  pub done : code ≡ 0 → {r : A} → r ≡ value → r ≡ answer code value refusal
+  done z d = d ∙ sym (answer-yes z)
+
+-- ---- the same of a call that is lent tables
+
+module _ {A : Type 0} (code : ℕ) (value : A) (refusal : ℕ → A) (ts : List Lent) where
+  pub left-alone : {k : ℕ} → k ≡ code → (k ≡ 0 → ⊥) → record { answer = refusal k; tables = map (λ t. t .before) ts } ≡ outcome code value refusal ts
+  unfolding outcome
+  left-alone e nz = refused code _ _ e nz
+
+  pub written-to : code ≡ 0 → {r : A} {ls : List (List ℕ)} → r ≡ value → ls ≡ map (λ t. t .made) ts → record { answer = r; tables = ls } ≡ outcome code value refusal ts
+  unfolding outcome
+  written-to z d f = done code _ _ z (rw (d, f))
+
+-- table by table
+pub each : {t s : List ℕ} {ts ss : List (List ℕ)} → t ≡ s → ts ≡ ss → t ∷ ts ≡ s ∷ ss
+each d e = rw (d, e)
 
 -- ---- the tests of a log come first
 
@@ -39,6 +74,11 @@ module _ (n : ℕ) (ts : List Refusal) where
   log-passed e = by-test (eqb n 0)
       (λ t. absurd (omega (arith, simp t at e)))
       (λ t. by-test (ltb longest n) (λ u. absurd (omega (arith, simp (t, u) at e))) (λ u. simp (t, u)))
+
+-- where the log is judged, the best pattern is refused exactly where Best is 0
+pub best-passed : (n b : ℕ) → logNo n ≡ 0 → bestNo n b ≡ cond (eqb b 0) 5 0
+unfolding bestNo firstNo
+best-passed n b z = sym (log-passed n ((eqb b 0, 5) ∷ []) z)
 
 -- a test that passes, and one that fails
 pub first-yes : (b : Bool) (k : ℕ) (ts : List Refusal) → b ≡ true → k ≡ firstNo ((b, k) ∷ ts)
@@ -64,7 +104,7 @@ fewer-least a b rs n = by-test (ltb (min a b) n)
 
 -- ---- no test passed
 
-first-zero : (b : Bool) (k : ℕ) (ts : List Refusal) → 0 < k → firstNo ((b, k) ∷ ts) ≡ 0 → (b ≡ false) × (firstNo ts ≡ 0)
+pub first-zero : (b : Bool) (k : ℕ) (ts : List Refusal) → 0 < k → firstNo ((b, k) ∷ ts) ≡ 0 → (b ≡ false) × (firstNo ts ≡ 0)
 unfolding firstNo
 first-zero true k ts h e = absurd (omega arith)
 first-zero false k ts h e = (refl, e)
@@ -76,9 +116,15 @@ or-false true b e = absurd (omega (arith, wrong e))
     wrong e = cc
 or-false false b e = (refl, e)
 
-pub fewer-none : (r : ℕ) (rs : List ℕ) (n : ℕ) → fewer (r ∷ rs) n ≡ false → (n ≤ r) × (fewer rs n ≡ false)
+fewer-none : (r : ℕ) (rs : List ℕ) (n : ℕ) → fewer (r ∷ rs) n ≡ false → (n ≤ r) × (fewer rs n ≡ false)
 unfolding fewer
 fewer-none r rs n e = let d = or-false (ltb r n) (fewer rs n) e in (ltb-false r n (d .0), d .1)
+
+-- each of the tables has room
+pub room-at : (rs : List ℕ) (n : ℕ) → fewer rs n ≡ false → (k : ℕ) → k < length rs → n ≤ getD rs k 0
+room-at [] n e k h = absurd (not-suc-le-zero h)
+room-at (r ∷ rs) n e zero h = fewer-none r rs n e .0
+room-at (r ∷ rs) n e (suc k) h = room-at rs n (fewer-none r rs n e .1) k (omega arith)
 
 -- a log that is judged
 pub record Judged (n : ℕ) : Type 0 where
@@ -95,6 +141,10 @@ judged n ts e =
 pub log-judged : (n : ℕ) → logNo n ≡ 0 → Judged n
 unfolding logNo
 log-judged n e = judged n [] e .0
+
+pub best-judged : (n b : ℕ) → bestNo n b ≡ 0 → Judged n
+unfolding bestNo
+best-judged n b e = judged n _ e .0
 
 module _ (n : ℕ) (rooms : List ℕ) (e : tableNo n rooms ≡ 0) where
   pub table-judged : Judged n

@@ -1,7 +1,7 @@
 -- What each call answers, and what stands in each lent table afterwards, on all inputs. Assumes nothing.
 -- code is the call's number: 0, or that of the first refusal that applies.
 use mathlib.Core.Bool.{cond}
-use mathlib.Core.List.{List, [], _∷_, _++_}
+use mathlib.Core.List.{List, [], _∷_, _++_, map}
 use Prim.Native.Nat.{ℕ, _-_}
 use lib.Dec.{eqb}
 use lib.ListN.{length, drop, replicate}
@@ -12,15 +12,38 @@ use Rattle.words.specs.declared.Listed.{Listed}
 use Rattle.words.specs.declared.Normal.{Normal}
 use Rattle.words.specs.declared.Breakdown.{Breakdown}
 use Rattle.words.specs.declared.Weighed.{Weighed}
+use Rattle.words.specs.declared.Pattern.{Pattern}
 use Rattle.words.specs.declared.CoverTest.{CoverTest}
 use Rattle.words.specs.declared.CoverTest.the-variants.{Yes, No, Refused}
 use Rattle.words.specs.Words.{limit, normal, breakdown, covers, coverList, weighed, total, best, bestPattern}
-use Rattle.words.specs.Tables.{Column, written, window, placed}
+use Rattle.words.specs.Tables.{Column, borderRow, prefixRow, coverRow, bestRow, countRow, written, window, placed}
 use Rattle.words.specs.Refusals.{tableNo, logNo, prefixNo, coverTestNo, bestNo, windowNo}
 
 -- the value where the call is accepted; what stands for it where it is refused
 unfoldable pub accepted : {A : Type 0} → ℕ → A → A → A
 accepted code value refused = cond (eqb code 0) value refused
+
+-- A call's answer: the value where it is accepted; where it is refused, the refusal that carries its number
+unfoldable pub answer : {A : Type 0} → ℕ → A → (ℕ → A) → A
+answer code value refusal = accepted code value (refusal code)
+
+-- A call's outcome: its answer, and what stands in each lent table afterwards
+pub record Outcome (A : Type 0) : Type 0 where
+  pub answer : A
+  pub tables : List (List ℕ)
+
+-- A lent table: what it holds before the call, and what an accepted call makes of it
+pub record Lent : Type 0 where
+  pub before : List ℕ
+  pub made : List ℕ
+
+-- the entries that each table has
+unfoldable pub rooms : List Lent → List ℕ
+rooms ts = map (λ t. length (t .before)) ts
+
+-- The outcome of a call that is lent these tables. Where it is refused, every table stays as it was
+unfoldable pub outcome : {A : Type 0} → ℕ → A → (ℕ → A) → List Lent → Outcome A
+outcome code value refusal ts = answer code (record { answer = value; tables = map (λ t. t .made) ts }) (λ k. record { answer = refusal k; tables = map (λ t. t .before) ts })
 
 -- a list in k places, with z after its last
 unfoldable pub places : {A : Type 0} → ℕ → A → List A → List A
@@ -33,34 +56,43 @@ weighedPlaces = 12
 abbrev pub breakdownPlaces : ℕ
 breakdownPlaces = 13
 
--- a table t that takes a column of x, after a call with this number
-unfoldable pub columnAfter : ℕ → Column → List ℕ → List ℕ → List ℕ
-columnAfter code f x t = accepted code (written (f x) (length x) t) t
+-- a table t that takes the column f of x in its first rows; the same of a window, in its own rows
+unfoldable pub column : Column → List ℕ → List ℕ → Lent
+column f x t = record { before = t; made = written (f x) (length x) t }
 
--- A call that writes one column into a table t: its number, and the table afterwards
-unfoldable pub tableAnswer : List ℕ → List ℕ → Written
-tableAnswer x t = record { number = tableNo (length x) (length t ∷ []) }
+unfoldable pub middle : Column → List ℕ → ℕ → ℕ → List ℕ → Lent
+middle f x a m t = record { before = t; made = placed (f (window a m x)) a m t }
 
-unfoldable pub tableAfter : Column → List ℕ → List ℕ → List ℕ
-tableAfter f x t = columnAfter (tableNo (length x) (length t ∷ [])) f x t
+-- A call that writes the column f into a table t
+unfoldable pub tableOutcome : Column → List ℕ → List ℕ → Outcome Written
+tableOutcome f x t =
+    let ts : List Lent = column f x t ∷ [] in
+    outcome (tableNo (length x) (rooms ts)) (record { number = 0 }) (λ k. record { number = k }) ts
+
+-- The weighed total of x, and none
+unfoldable pub weighing : List ℕ → Weighing
+weighing x = record { number = 0; total = total eqb x }
+
+abbrev pub noWeighing : ℕ → Weighing
+noWeighing k = record { number = k; total = 0 }
 
 -- The enhanced table, with the tables b for Best and c for Count
-unfoldable pub enhancedNo : List ℕ → List ℕ → List ℕ → ℕ
-enhancedNo x b c = tableNo (length x) (length b ∷ length c ∷ [])
+unfoldable pub enhancedOutcome : List ℕ → List ℕ → List ℕ → Outcome Weighing
+enhancedOutcome x b c =
+    let ts : List Lent = column bestRow x b ∷ column countRow x c ∷ [] in
+    outcome (tableNo (length x) (rooms ts)) (weighing x) noWeighing ts
 
--- the answer of a call with this number that weighs x
-unfoldable pub weighing : ℕ → List ℕ → Weighing
-weighing code x = record { number = code; total = accepted code (total eqb x) 0 }
-
-unfoldable pub enhancedAnswer : List ℕ → List ℕ → List ℕ → Weighing
-enhancedAnswer x b c = weighing (enhancedNo x b c) x
+-- A window of m readings after the first a, with its five tables
+unfoldable pub windowOutcome : List ℕ → ℕ → ℕ → List ℕ → List ℕ → List ℕ → List ℕ → List ℕ → Outcome Weighing
+windowOutcome x a m b p c e k =
+    let ts : List Lent = middle borderRow x a m b ∷ middle prefixRow x a m p ∷ middle coverRow x a m c ∷ middle bestRow x a m e ∷ middle countRow x a m k ∷ [] in
+    outcome (windowNo (length x) a m (rooms ts)) (weighing (window a m x)) noWeighing ts
 
 -- The normal form at i
 unfoldable pub normalAnswer : List ℕ → ℕ → Normal
 normalAnswer x i =
-    let code = prefixNo (length x) i in
     let f = normal eqb x i in
-    accepted code (record { number = 0; k1 = f .k1; k2 = f .k2; k = f .k }) (record { number = code; k1 = 0; k2 = 0; k = 0 })
+    answer (prefixNo (length x) i) (record { number = 0; k1 = f .k1; k2 = f .k2; k = f .k }) (λ k. record { number = k; k1 = 0; k2 = 0; k = 0 })
 
 -- The breakdown
 abbrev pub noPart : Part
@@ -70,49 +102,32 @@ unfoldable pub broken : ℕ → List Part → Breakdown
 broken code l = record { number = code; used = length l; parts = places breakdownPlaces noPart l }
 
 unfoldable pub breakdownAnswer : List ℕ → Breakdown
-breakdownAnswer x =
-    let code = logNo (length x) in
-    accepted code (broken 0 (breakdown eqb x breakdownPlaces (length x))) (broken code [])
+breakdownAnswer x = answer (logNo (length x)) (broken 0 (breakdown eqb x breakdownPlaces (length x))) (λ k. broken k [])
 
--- The list of covers, and the table t afterwards: from its first entry on, the entries after the list stay
-unfoldable pub coverListAnswer : List ℕ → List ℕ → Listed
-coverListAnswer x t =
-    let code = tableNo (length x) (length t ∷ []) in
-    record { number = code; used = accepted code (length (coverList eqb x)) 0 }
-
-unfoldable pub coverListAfter : List ℕ → List ℕ → List ℕ
-coverListAfter x t =
-    accepted (tableNo (length x) (length t ∷ [])) (coverList eqb x ++ drop (length (coverList eqb x)) t) t
+-- The list of covers in a table t: from its first entry on; the entries after the list stay
+unfoldable pub coverListOutcome : List ℕ → List ℕ → Outcome Listed
+coverListOutcome x t =
+    let l = coverList eqb x in
+    let ts : List Lent = record { before = t; made = l ++ drop (length l) t } ∷ [] in
+    outcome (tableNo (length x) (rooms ts)) (record { number = 0; used = length l }) (λ k. record { number = k; used = 0 }) ts
 
 -- The cover test of q at i
 unfoldable pub coverTestAnswer : List ℕ → ℕ → ℕ → CoverTest
-coverTestAnswer x i q =
-    let code = coverTestNo (length x) i q in
-    accepted code (cond (covers eqb x i q) Yes No) (Refused code)
+coverTestAnswer x i q = answer (coverTestNo (length x) i q) (cond (covers eqb x i q) Yes No) Refused
 
 -- The weighed list at i
 unfoldable pub listed : ℕ → List ℕ → ℕ → Weighed
 listed code l k = record { number = code; used = length l; limit = k; lens = places weighedPlaces 0 l }
 
 unfoldable pub weighedAnswer : List ℕ → ℕ → Weighed
-weighedAnswer x i =
-    let code = prefixNo (length x) i in
-    accepted code (listed 0 (weighed eqb x i) (limit i)) (listed code [] 0)
+weighedAnswer x i = answer (prefixNo (length x) i) (listed 0 (weighed eqb x i) (limit i)) (λ k. listed k [] 0)
 
--- The best pattern: the number, and the part
+-- The best pattern: its number, its length beside it, and the part
 unfoldable pub bestPatternNo : List ℕ → ℕ
 bestPatternNo x = bestNo (length x) (best eqb x (length x))
 
+unfoldable pub patternAnswer : List ℕ → Pattern
+patternAnswer x = answer (bestPatternNo x) (record { number = 0; len = best eqb x (length x) }) (λ k. record { number = k; len = 0 })
+
 unfoldable pub bestPatternPart : List ℕ → List ℕ
 bestPatternPart x = accepted (bestPatternNo x) (bestPattern eqb x) []
-
--- A window of m readings after the first a, with five lent tables: the number, the answer, and each table afterwards
-unfoldable pub windowCode : List ℕ → ℕ → ℕ → List ℕ → List ℕ → List ℕ → List ℕ → List ℕ → ℕ
-windowCode x a m border prefix cover best count =
-    windowNo (length x) a m (length border ∷ length prefix ∷ length cover ∷ length best ∷ length count ∷ [])
-
-unfoldable pub windowAnswer : ℕ → List ℕ → ℕ → ℕ → Weighing
-windowAnswer code x a m = weighing code (window a m x)
-
-unfoldable pub windowAfter : ℕ → Column → List ℕ → ℕ → ℕ → List ℕ → List ℕ
-windowAfter code f x a m t = accepted code (placed (f (window a m x)) a m t) t

@@ -64,6 +64,13 @@ pub struct Weighed {
     pub lens: [u16; WEIGHED_PLACES],
 }
 
+// The best pattern: how many readings it has.
+#[repr(C)]
+pub struct Pattern {
+    pub number: u8,
+    pub len: usize,
+}
+
 // The cover test.
 pub enum CoverTest {
     Yes,

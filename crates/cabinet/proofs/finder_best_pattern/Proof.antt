@@ -9,5 +9,4 @@ finder-best-pattern-spec =
     tie.close
     (tie.spec
     (λ c κs. search needs)
-    (λ c κs. search needs)
     (λ c. search pattern-span))

@@ -1,6 +1,6 @@
 -- `finder::best_pattern` meets its contract. Assumes nothing.
 use borrow.Author.Needs.{needs}
-use Rattle.finder.proofs.Answers.{pattern-within, pattern-part, same-place}
+use Rattle.finder.proofs.Patterns.{cut-within, pattern-cut, same-place}
 use Rattle.finder.proofs.best_pattern.Statement.{statement}
 use Rattle.finder.proofs.best_pattern.Tie as tie
 
@@ -11,5 +11,5 @@ best-pattern-spec =
     (λ c κs. search needs)
     (λ c. search needs)
     (λ c. search needs)
-    (λ c. search pattern-within)
-    (λ c. (search pattern-part, same-place _)))
+    (λ c. search cut-within)
+    (λ c. (search pattern-cut, same-place _)))

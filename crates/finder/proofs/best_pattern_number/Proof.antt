@@ -1,7 +1,6 @@
 -- `finder::best_pattern_number` meets its contract. Assumes nothing.
 use borrow.Author.Needs.{needs}
-use Rattle.words.proofs.Refusals.{log-judged}
-use Rattle.finder.proofs.Answers.{number-refused, number-done}
+use Rattle.finder.proofs.Patterns.{pattern-number}
 use Rattle.finder.proofs.best_pattern_number.Statement.{statement}
 use Rattle.finder.proofs.best_pattern_number.Tie as tie
 
@@ -10,7 +9,4 @@ best-pattern-number-spec =
     tie.close
     (tie.spec
     (λ c κs. search needs)
-    (λ c. search number-refused)
-    (λ c κs. log-judged _ (search needs))
-    (λ c κs. search needs)
-    (λ c. search number-done))
+    (λ c. search pattern-number))

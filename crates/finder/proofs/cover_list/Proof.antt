@@ -1,16 +1,21 @@
 -- `finder::cover_list` meets its contract. Assumes nothing.
+use mathlib.Core.Path.{refl}
+use native.Mathlib.Omega.{arith}
 use borrow.Author.Needs.{needs}
-use Rattle.finder.proofs.Answers.{table-lent, table-some, list-refused, list-fits, list-done}
+use Rattle.words.specs.Answers as A
+use Rattle.words.proofs.Refusals.{left-alone, written-to, each}
+use Rattle.finder.proofs.Answers.{table-lent, table-some, list-fits, listed-is}
 use Rattle.finder.proofs.cover_list.Statement.{statement}
 use Rattle.finder.proofs.cover_list.Tie as tie
 
 pub cover-list-spec : {M : Type 1} → statement M
+unfolding A.coverListOutcome A.rooms
 cover-list-spec =
     tie.close
     (tie.spec
     (λ c κs. search needs)
-    (λ c. list-refused _ _ (search needs) (search needs))
-    (λ c κs. (table-lent _ _ (search needs), search table-some))
+    (λ c. left-alone _ _ _ _ (search needs) (search needs))
+    (λ c κs. (table-lent 0 _ _ _ (c .before .before .table .ensures) (search needs) (omega arith) refl, search table-some))
     (λ c. search list-fits)
     (λ c. search needs)
-    (λ c. list-done _ _ (search needs) (search needs) (search needs)))
+    (λ c. written-to _ _ _ _ (search needs) (listed-is _ (search needs)) (each (search needs) refl)))

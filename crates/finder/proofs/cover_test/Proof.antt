@@ -1,15 +1,18 @@
 -- `finder::cover_test` meets its contract. Assumes nothing.
 use borrow.Author.Needs.{needs}
-use Rattle.finder.proofs.Answers.{test-refused, test-within, test-accepted, test-some, test-short, test-yes, test-no}
+use Rattle.words.specs.Answers as A
+use Rattle.words.proofs.Refusals.{refused}
+use Rattle.finder.proofs.Answers.{test-within, test-accepted, test-some, test-short, test-yes, test-no}
 use Rattle.finder.proofs.cover_test.Statement.{statement}
 use Rattle.finder.proofs.cover_test.Tie as tie
 
 pub cover-test-spec : {M : Type 1} → statement M
+unfolding A.coverTestAnswer
 cover-test-spec =
     tie.close
     (tie.spec
     (λ c κs. search needs)
-    (λ c. search test-refused)
+    (λ c. refused _ _ _ (search needs) (search needs))
     (λ c. search needs)
     (λ c. search needs)
     (λ c. search test-within)

@@ -1,16 +1,22 @@
 -- `finder::enhanced_table` meets its contract. Assumes nothing.
+use mathlib.Core.Path.{refl}
+use native.Mathlib.Omega.{arith}
 use borrow.Author.Needs.{needs}
-use Rattle.finder.proofs.Answers.{enhanced-refused, best-lent, count-lent, enhanced-done}
+use Rattle.words.specs.Answers as A
+use Rattle.words.proofs.Refusals.{left-alone, written-to, each}
+use Rattle.finder.proofs.Answers.{table-lent, weighing-is}
 use Rattle.finder.proofs.enhanced_table.Statement.{statement}
 use Rattle.finder.proofs.enhanced_table.Tie as tie
 
 pub enhanced-table-spec : {M : Type 1} → statement M
+unfolding A.enhancedOutcome A.rooms A.column
 enhanced-table-spec =
     tie.close
     (tie.spec
     (λ c κs. search needs)
-    (λ c. enhanced-refused _ _ _ (search needs) (search needs))
-    (λ c κs. (search (best-lent, count-lent), search (best-lent, count-lent)))
+    (λ c. left-alone _ _ _ _ (search needs) (search needs))
+    (λ c κs. let e = c .before .before .before .two-tables .ensures in
+    (table-lent 0 _ _ _ e (search needs) (omega arith) refl, table-lent 1 _ _ _ e (search needs) (omega arith) refl))
     (λ c. search needs)
     (λ c. search needs)
-    (λ c. enhanced-done _ _ _ (search needs) (search needs) (search needs) (search needs)))
+    (λ c. written-to _ _ _ _ (search needs) (weighing-is _ (search needs)) (each (search needs) (each (search needs) refl))))

@@ -1,16 +1,20 @@
 -- `finder::prefix_table` meets its contract. Assumes nothing.
+use mathlib.Core.Path.{refl}
+use native.Mathlib.Omega.{arith}
 use borrow.Author.Needs.{needs}
-use Rattle.words.specs.Tables.{prefixRow}
-use Rattle.finder.proofs.Answers.{table-refused, table-lent, table-done}
+use Rattle.words.specs.Answers as A
+use Rattle.words.proofs.Refusals.{left-alone, written-to, each}
+use Rattle.finder.proofs.Answers.{table-lent}
 use Rattle.finder.proofs.prefix_table.Statement.{statement}
 use Rattle.finder.proofs.prefix_table.Tie as tie
 
 pub prefix-table-spec : {M : Type 1} → statement M
+unfolding A.tableOutcome A.rooms A.column
 prefix-table-spec =
     tie.close
     (tie.spec
     (λ c κs. search needs)
-    (λ c. table-refused prefixRow _ _ (search needs) (search needs))
-    (λ c κs. table-lent _ _ (search needs))
+    (λ c. left-alone _ _ _ _ (search needs) (search needs))
+    (λ c κs. table-lent 0 _ _ _ (c .before .before .table .ensures) (search needs) (omega arith) refl)
     (λ c. search needs)
-    (λ c. table-done prefixRow _ _ (search needs) (search needs)))
+    (λ c. written-to _ _ _ _ (search needs) refl (each (search needs) refl)))

@@ -1,7 +1,6 @@
 -- `finder::weighed_list` meets its contract. Assumes nothing.
 use borrow.Author.Needs.{needs}
-use Rattle.words.proofs.Refusals.{prefix-inside}
-use Rattle.finder.proofs.Answers.{weighed-refused, prefix-accepted, weighed-done}
+use Rattle.finder.proofs.Answers.{weighed-refused, prefix-within, prefix-accepted, weighed-done}
 use Rattle.finder.proofs.weighed_list.Statement.{statement}
 use Rattle.finder.proofs.weighed_list.Tie as tie
 
@@ -13,6 +12,6 @@ weighed-list-spec =
     (λ c. search weighed-refused)
     (λ c. search needs)
     (λ c. search needs)
-    (λ c. prefix-inside _ _ (search needs) .1)
+    (λ c. search prefix-within)
     (λ c κs. search prefix-accepted)
-    (λ c. weighed-done _ _ (search needs) (search needs)))
+    (λ c. search weighed-done))

@@ -1,6 +1,6 @@
 -- `refusals::two_tables` meets its contract. Assumes nothing.
 use borrow.Author.Needs.{needs}
-use Rattle.refusals.proofs.Steps.{two-tables}
+use Rattle.refusals.proofs.Steps.{table-less}
 use Rattle.refusals.proofs.two_tables.Statement.{statement}
 use Rattle.refusals.proofs.two_tables.Tie as tie
 
@@ -10,4 +10,4 @@ two-tables-spec =
     (tie.spec
     (λ c κs. search needs)
     (λ c κs. search needs)
-    (λ c. search two-tables))
+    (λ c. search table-less))

@@ -1,6 +1,6 @@
 -- `refusals::window` meets its contract. Assumes nothing.
 use borrow.Author.Needs.{needs}
-use Rattle.refusals.proofs.Steps.{five-tables}
+use Rattle.refusals.proofs.Steps.{window-less}
 use Rattle.refusals.proofs.window.Statement.{statement}
 use Rattle.refusals.proofs.window.Tie as tie
 
@@ -13,4 +13,4 @@ window-spec =
     (λ c κs. search needs)
     (λ c κs. search needs)
     (λ c κs. search needs)
-    (λ c. search five-tables))
+    (λ c. search window-less))
