@@ -7,10 +7,10 @@ use mathlib.Core.Logic.{⊎-elim}
 use Prim.Native.Nat.{ℕ, _+_, _-_, _≤_, _<_}
 use native.Mathlib.Nat.{sub-zero, zero-add, eq-zero-or-pos}
 use native.Mathlib.Omega.{arith}
-use lib.Dec.{eqb}
+use lib.Dec.{eqb, ltb}
 use lib.ListN.{length, getD, take, drop, replicate}
 use lib.Seq.{length-take-le}
-use borrow.Author.Tests.{eq-eqb, ne-eqb}
+use borrow.Author.Tests.{eq-eqb, ne-eqb, ltb-true}
 use mir.Syntax.{w16}
 use mir.Val.{Fits}
 use Rattle.words.specs.declared.Part.{Part}
@@ -36,10 +36,10 @@ use Rattle.windowed.specs.Within.{Within}
 pub table-some : (x rs : List ℕ) {k : ℕ} → k ≡ tableNo (length x) rs → k ≡ 0 → 0 < length x
 table-some x rs e z = table-judged (length x) rs (sym e ∙ z) .some
 
-pub table-lent : (j : ℕ) (x t rs : List ℕ) {k : ℕ} → k ≡ tableNo (length x) rs → k ≡ 0 → j < length rs → getD rs j 0 ≡ length t → Room x t
+pub table-lent : (j : ℕ) (x t rs : List ℕ) {k : ℕ} → k ≡ tableNo (length x) rs → k ≡ 0 → ltb j (length rs) ≡ true → getD rs j 0 ≡ length t → Room x t
 table-lent j x t rs e z h d = record {
   most = table-judged (length x) rs (sym e ∙ z) .most;
-  room = rw (← d) (room-at rs (length x) (table-room (length x) rs (sym e ∙ z)) j h);
+  room = rw (← d) (room-at rs (length x) (table-room (length x) rs (sym e ∙ z)) j (ltb-true j (length rs) h));
 }
 
 -- the answers that they come with

@@ -1,6 +1,5 @@
 -- `finder::cover_list` meets its contract. Assumes nothing.
 use mathlib.Core.Path.{refl}
-use native.Mathlib.Omega.{arith}
 use borrow.Author.Needs.{needs}
 use Rattle.words.specs.Answers as A
 use Rattle.words.proofs.Refusals.{left-alone, written-to, each}
@@ -15,7 +14,7 @@ cover-list-spec =
     (tie.spec
     (λ c κs. search needs)
     (λ c. left-alone _ _ _ _ (search needs) (search needs))
-    (λ c κs. (table-lent 0 _ _ _ (c .before .before .table .ensures) (search needs) (omega arith) refl, search table-some))
+    (λ c κs. (search (table-lent 0), search table-some))
     (λ c. search list-fits)
     (λ c. search needs)
     (λ c. written-to _ _ _ _ (search needs) (listed-is _ (search needs)) (each (search needs) refl)))

@@ -1,6 +1,5 @@
 -- `finder::enhanced_table` meets its contract. Assumes nothing.
 use mathlib.Core.Path.{refl}
-use native.Mathlib.Omega.{arith}
 use borrow.Author.Needs.{needs}
 use Rattle.words.specs.Answers as A
 use Rattle.words.proofs.Refusals.{left-alone, written-to, each}
@@ -15,8 +14,7 @@ enhanced-table-spec =
     (tie.spec
     (λ c κs. search needs)
     (λ c. left-alone _ _ _ _ (search needs) (search needs))
-    (λ c κs. let e = c .before .before .before .two-tables .ensures in
-    (table-lent 0 _ _ _ e (search needs) (omega arith) refl, table-lent 1 _ _ _ e (search needs) (omega arith) refl))
+    (λ c κs. (search (table-lent 0, table-lent 1), search (table-lent 0, table-lent 1)))
     (λ c. search needs)
     (λ c. search needs)
     (λ c. written-to _ _ _ _ (search needs) (weighing-is _ (search needs)) (each (search needs) (each (search needs) refl))))
