@@ -1,48 +1,33 @@
 -- Each call's two ways: refused with a number, or accepted with what floor 2 made. Assumes nothing.
 -- Which way an answer takes, and what stands in the tables, is said once for all calls: `refused`, `done`, `left-alone` and `written-to` of words/proofs/Refusals.
 use mathlib.Core.Bool.{Bool, true, false, cond}
-use mathlib.Core.Path.{_≡_, refl, sym, ap, _∙_}
-use mathlib.Core.List.{List, [], _∷_, _++_, map}
+use mathlib.Core.Path.{_≡_, sym, ap, _∙_}
+use mathlib.Core.List.{List, [], _∷_}
 use mathlib.Core.Logic.{⊎-elim}
 use Prim.Native.Nat.{ℕ, _+_, _-_, _≤_, _<_}
-use native.Mathlib.Nat.{sub-zero, zero-add, eq-zero-or-pos}
+use native.Mathlib.Nat.{sub-zero, eq-zero-or-pos}
 use native.Mathlib.Omega.{arith}
-use lib.Dec.{eqb, ltb}
+use lib.Dec.{eqb}
 use lib.ListN.{length, getD, take, drop, replicate}
 use lib.Seq.{length-take-le}
-use borrow.Author.Tests.{eq-eqb, ne-eqb, ltb-true}
+use borrow.Author.Tests.{eq-eqb, ne-eqb}
 use mir.Syntax.{w16}
 use mir.Val.{Fits}
 use Rattle.words.specs.declared.Part.{Part}
-use Rattle.words.specs.declared.Breakdown.{Breakdown}
 use Rattle.words.specs.declared.Weighed.{Weighed}
 use Rattle.words.specs.declared.Listed.{Listed}
-use Rattle.words.specs.declared.CoverTest.{CoverTest}
-use Rattle.words.specs.declared.CoverTest.the-variants.{Yes, No, Refused}
+use Rattle.words.specs.declared.CoverTest.the-variants.{Yes, No}
 use Rattle.words.specs.Words as W
-use Rattle.words.specs.Tables.{Column, written, window, placed, borderRow, prefixRow, coverRow, bestRow, countRow}
-use Rattle.words.specs.Refusals.{firstNo, fewer, longest, tableNo, logNo, prefixNo, coverTestNo, bestNo, windowNo}
+use Rattle.words.specs.Refusals.{tableNo, logNo, prefixNo, coverTestNo, bestNo, windowNo}
 use Rattle.words.specs.Answers as A
-use Rattle.words.proofs.Tables.{Room}
 use Rattle.words.proofs.Places.{places-none}
-use Rattle.words.proofs.Refusals.{Judged, accepted-yes, accepted-no, log-judged, table-judged, table-room, room-at, refused, done, prefix-judged, prefix-inside, coverTest-judged, coverTest-inside, coverTest-pattern, log-refused, best-passed, window-judged, window-inside, window-room}
+use Rattle.words.proofs.Refusals.{Judged, table-judged, room-at, refused, done, prefix-judged, prefix-inside, coverTest-judged, coverTest-inside, coverTest-pattern, log-refused, best-passed, window-judged, window-inside, window-room}
 use Rattle.words.proofs.Locality.{take-alike, normal-local, covers-local, weighed-local}
 use Rattle.words.proofs.CoverLists.{coverList-le}
-use Rattle.words.proofs.Bests.{best-lt}
 use Rattle.windowed.specs.Within.{Within}
 
--- ---- a table call that was accepted lends on its log, and the j-th of its tables
+-- ---- the answers that come with tables
 
-pub table-some : (x rs : List ℕ) {k : ℕ} → k ≡ tableNo (length x) rs → k ≡ 0 → 0 < length x
-table-some x rs e z = table-judged (length x) rs (sym e ∙ z) .some
-
-pub table-lent : (j : ℕ) (x t rs : List ℕ) {k : ℕ} → k ≡ tableNo (length x) rs → k ≡ 0 → ltb j (length rs) ≡ true → getD rs j 0 ≡ length t → Room x t
-table-lent j x t rs e z h d = record {
-  most = table-judged (length x) rs (sym e ∙ z) .most;
-  room = rw (← d) (room-at rs (length x) (table-room (length x) rs (sym e ∙ z)) j (ltb-true j (length rs) h));
-}
-
--- the answers that they come with
 pub weighing-is : (x : List ℕ) {n : ℕ} → n ≡ W.total eqb x → record { number = 0; total = n } ≡ A.weighing x
 unfolding A.weighing
 weighing-is x e = rw e

@@ -11,6 +11,7 @@ use borrow.Author.Tests.{eqb-false, ltb-false, ltb-true, le-ltb, eq-eqb, ne-eqb}
 use Rattle.words.specs.Refusals.{Refusal, firstNo, empty, long, fewer, longest, outside, tableNo, logNo, prefixNo, coverTestNo, bestNo, windowNo}
 use Rattle.words.specs.Answers.{accepted, answer, Outcome, Lent, outcome}
 use Rattle.words.proofs.Tests.{by-test}
+use Rattle.words.proofs.Tables.{Room}
 
 -- any two outcomes that a contract allows are equal: each call's contract gives its whole outcome as an equation
 pub unique : {A : Type 0} {a b c : A} → a ≡ c → b ≡ c → a ≡ b
@@ -154,6 +155,16 @@ module _ (n : ℕ) (rooms : List ℕ) (e : tableNo n rooms ≡ 0) where
   pub table-room : fewer rooms n ≡ false
   unfolding tableNo
   table-room = first-zero (fewer rooms n) 4 [] (omega arith) (judged n _ e .1) .0
+
+-- as the code of a table call takes it: a log with readings, and room in the j-th of its tables
+pub table-some : (x rs : List ℕ) {k : ℕ} → k ≡ tableNo (length x) rs → k ≡ 0 → 0 < length x
+table-some x rs e z = table-judged (length x) rs (sym e ∙ z) .some
+
+pub table-lent : (j : ℕ) (x t rs : List ℕ) {k : ℕ} → k ≡ tableNo (length x) rs → k ≡ 0 → ltb j (length rs) ≡ true → getD rs j 0 ≡ length t → Room x t
+table-lent j x t rs e z h d = record {
+  most = table-judged (length x) rs (sym e ∙ z) .most;
+  room = rw (← d) (room-at rs (length x) (table-room (length x) rs (sym e ∙ z)) j (ltb-true j (length rs) h));
+}
 
 inside-of : (n i : ℕ) → outside n i ≡ false → (0 < i) × (i ≤ n)
 inside-of n i e =

@@ -2,8 +2,8 @@
 use mathlib.Core.Path.{refl}
 use borrow.Author.Needs.{needs}
 use Rattle.words.specs.Answers as A
-use Rattle.words.proofs.Refusals.{left-alone, written-to, each}
-use Rattle.finder.proofs.Answers.{table-lent, table-some, list-fits, listed-is}
+use Rattle.words.proofs.Refusals.{left-alone, written-to, each, table-lent, table-some}
+use Rattle.finder.proofs.Answers.{list-fits, listed-is}
 use Rattle.finder.proofs.cover_list.Statement.{statement}
 use Rattle.finder.proofs.cover_list.Tie as tie
 
