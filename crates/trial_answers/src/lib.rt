@@ -201,7 +201,11 @@ fn best_pattern(x: &[u8]) -> bool {
     if x.len() < q {
         return false;
     }
-    finder::best_pattern_number(x) == number && check::same(finder::best_pattern(x), &x[0..q])
+    let p = finder::pattern(x);
+    (p.number == number)
+        & (p.len == q)
+        & (finder::best_pattern_number(x) == number)
+        & check::same(finder::best_pattern(x), &x[0..q])
 }
 
 // Every call that only answers.
