@@ -11,70 +11,40 @@ use trial_runs::long;
 use trial_runs::small;
 
 fn small_logs(t: Tally) -> Tally {
-    let a = small::logs(
-        t,
-        b"all logs over 2 letters to 12, every call:",
-        small::EVERY_CALL,
-        b"\x00\xff",
-        12,
-    );
-    let b = small::logs(
-        a,
-        b"all logs over 3 letters to 8, every call:",
-        small::EVERY_CALL,
-        b"\x00\xff\x14",
-        8,
-    );
-    small::logs(
-        b,
-        b"all logs over 2 letters to 8, every call, tables that held small numbers:",
-        small::HELD_SMALL,
-        b"\x00\xff",
-        8,
-    )
+    let a = t.begin(b"all logs over 2 letters to 12, every call:");
+    let b = small::logs(a, small::EVERY_CALL, b"\x00\xff", 12);
+    let c = b.begin(b"all logs over 3 letters to 8, every call:");
+    let d = small::logs(c, small::EVERY_CALL, b"\x00\xff\x14", 8);
+    let e = d.begin(b"all logs over 2 letters to 8, every call, tables that held small numbers:");
+    small::logs(e, small::HELD_SMALL, b"\x00\xff", 8)
 }
 
 fn small_windows(t: Tally) -> Tally {
-    let a = small::logs(
-        t,
-        b"all logs over 2 letters to 8, windows at every place and past the end:",
-        small::WINDOWS,
-        b"\x00\xff",
-        8,
-    );
-    small::logs(
-        a,
-        b"all logs over 3 letters to 5, windows at every place and past the end:",
-        small::WINDOWS,
-        b"\x00\xff\x14",
-        5,
-    )
+    let a = t.begin(b"all logs over 2 letters to 8, windows at every place and past the end:");
+    let b = small::logs(a, small::WINDOWS, b"\x00\xff", 8);
+    let c = b.begin(b"all logs over 3 letters to 5, windows at every place and past the end:");
+    small::logs(c, small::WINDOWS, b"\x00\xff\x14", 5)
 }
 
 fn some_files(t: Tally) -> Tally {
-    let a = small::files(
-        t,
-        b"all files of up to 6 bytes of 5 values:",
-        b"\x01\x00\x02\x14\x15",
-        6,
-    );
-    trial_files::long(
-        a,
+    let a = t.begin(b"all files of up to 6 bytes of 5 values:");
+    let b = small::files(a, b"\x01\x00\x02\x14\x15", 6);
+    trial_files::long(b.begin(
         b"files of 1, 255, 256 and 4095 to 4097 symbols, one more and one fewer:",
-    )
+    ))
 }
 
 fn long_logs(t: Tally) -> Tally {
-    let z = long::edges(
-        t,
+    let z = t.begin(
         b"logs of 0, 1, 4096 and 4097 readings, every call: border and prefix at every row, the rest to row 20 and at every 1999th, list of covers and total by the finder itself:",
     );
-    let a = long::of(z, b"flat", FLAT);
-    let b = long::of(a, b"Fibonacci word", FIBONACCI);
-    let c = long::of(b, b"cycle of 40", CYCLE);
-    let d = long::of(c, b"cycle of 40 with defects", DEFECTS);
-    let e = long::of(d, b"runs of 63 and one other", RUNS);
-    long::of(e, b"random over 2 letters", RANDOM)
+    let a = long::edges(z);
+    let b = long::of(a.begin(b"flat"), FLAT);
+    let c = long::of(b.begin(b"Fibonacci word"), FIBONACCI);
+    let d = long::of(c.begin(b"cycle of 40"), CYCLE);
+    let e = long::of(d.begin(b"cycle of 40 with defects"), DEFECTS);
+    let f = long::of(e.begin(b"runs of 63 and one other"), RUNS);
+    long::of(f.begin(b"random over 2 letters"), RANDOM)
 }
 
 fn main() {

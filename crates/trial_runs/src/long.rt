@@ -34,9 +34,9 @@ fn written(t: Tally, kind: u8, x: &mut [u8]) -> Tally {
 }
 
 // A log of 4096 readings of this kind, its first hundred as a log of their own, and some windows.
-pub fn of(t: Tally, name: &[u8], kind: u8) -> Tally {
+pub fn of(t: Tally, kind: u8) -> Tally {
     let mut x = [0u8; 4096];
-    let begun = t.begin(name).say(
+    let begun = t.say(
         b", 4096 readings: border, prefix and limit at every row, the rest to row 400 and at every 199th, list of covers and total only by the cover tests and weighed lists of the finder itself; the first 100 and four windows in full:",
     );
     if !begun.whole {
@@ -66,11 +66,10 @@ fn at_edges(t: Tally, x: &mut [u8]) -> Tally {
 }
 
 // The least and the greatest lengths, and those just past them.
-pub fn edges(t: Tally, name: &[u8]) -> Tally {
+pub fn edges(t: Tally) -> Tally {
     let mut x = [0u8; 4097];
-    let begun = t.begin(name);
-    if !begun.whole {
-        return begun;
+    if !t.whole {
+        return t;
     }
-    at_edges(begun, &mut x).end(b" logs,")
+    at_edges(t, &mut x).end(b" logs,")
 }

@@ -102,11 +102,11 @@ fn of_lengths(t: Tally, what: u8, letters: &[u8], from: usize, to: usize) -> Tal
 }
 
 // All logs of 1 to `most` letters.
-pub fn logs(t: Tally, name: &[u8], what: u8, letters: &[u8], most: usize) -> Tally {
-    of_lengths(t.begin(name), what, letters, 1, most).end(b" logs,")
+pub fn logs(t: Tally, what: u8, letters: &[u8], most: usize) -> Tally {
+    of_lengths(t, what, letters, 1, most).end(b" logs,")
 }
 
 // All files of up to `most` bytes.
-pub fn files(t: Tally, name: &[u8], letters: &[u8], most: usize) -> Tally {
-    of_lengths(t.begin(name), FILES, letters, 0, most).end(b" files,")
+pub fn files(t: Tally, letters: &[u8], most: usize) -> Tally {
+    of_lengths(t, FILES, letters, 0, most).end(b" files,")
 }
