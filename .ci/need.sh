@@ -4,12 +4,13 @@
 need() {
     local tool packages
     for tool; do
+        command -v "$tool" >/dev/null && continue
         packages=("$tool")
         [ "$tool" != gcc ] || packages+=(libc6-dev)
-        if ! command -v "$tool" >/dev/null && ! { install_packages "${packages[@]}" && command -v "$tool" >/dev/null; }; then
-            echo "$tool is missing: apt-get install ${packages[*]}, as root" >&2
-            exit 1
-        fi
+        install_packages "${packages[@]}" || true
+        command -v "$tool" >/dev/null && continue
+        echo "$tool is missing: apt-get install ${packages[*]}, as root" >&2
+        exit 1
     done
 }
 

@@ -2,7 +2,6 @@
 
 Lengths and positions are counted from 1 as in the definitions; j is a number of readings skipped, from 0.
 """
-
 from functools import cache
 
 LONGEST = 4096
