@@ -3,13 +3,14 @@
 // Writes the text and answers whether all of it was taken; a piece that was taken in part is written on to its end. Where it was not, `say` is told so
 // in one line, and the program is to stop there.
 pub fn write(to: i32, say: i32, text: &[u8]) -> bool {
-    whole(io::write_all(to, text), say)
+    if io::write_all(to, text) {
+        return true;
+    }
+    fail(say)
 }
 
-// The same of a piece that was written elsewhere: `all` is whether all of it was taken.
-pub fn whole(all: bool, say: i32) -> bool {
-    if !all {
-        io::write_all(say, b"the output cannot be written\n");
-    }
-    all
+// Says that the output cannot be written.
+pub fn fail(say: i32) -> bool {
+    io::write_all(say, b"the output cannot be written\n");
+    false
 }

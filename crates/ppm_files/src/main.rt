@@ -70,7 +70,8 @@ fn main() {
     let count = os::arg_count();
     let mut k = 1;
     while k < count {
-        if !output::whole(one(k), 2) {
+        if !one(k) {
+            output::fail(2);
             return;
         }
         k += 1;

@@ -9,11 +9,13 @@ pub fn say(whole: bool, text: &[u8]) -> bool {
 }
 
 pub fn decimal(whole: bool, n: u64) -> bool {
-    if whole {
-        output::whole(io::print_decimal(1, n), 2)
-    } else {
-        false
+    if !whole {
+        return false;
     }
+    if io::print_decimal(1, n) {
+        return true;
+    }
+    output::fail(2)
 }
 
 // A number after a space.
