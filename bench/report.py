@@ -42,6 +42,15 @@ def table(kinds, sizes, cell):
     return "\n".join(lines)
 
 
+def pattern_table(counts):
+    """The best pattern's cost in enhanced tables: a row for each kind of log, a column for each n."""
+    lines = ["| log | " + " | ".join(f"{n:,}" for n in counts.sizes) + " |", "|---|" + "---:|" * len(counts.sizes)]
+    for kind in counts.kinds:
+        ratios = [counts("proved", "pattern", kind, n) / counts("proved", "enhanced", kind, n) for n in counts.sizes]
+        lines.append(f"| {kind} | " + " | ".join(f"{ratio:.2f}" for ratio in ratios) + " |")
+    return "\n".join(lines)
+
+
 def stack_table(path):
     """A line a call, its name and its bytes."""
     rows = (line.split() for line in path.read_text().splitlines())
@@ -69,6 +78,10 @@ Instructions a reading of the proved library; in brackets, how many times those 
 Instructions a reading of plain C / plain Rust:
 
 {table(counts.kinds, counts.sizes, plain)}
+
+Instructions of `best_pattern`, in those of `enhanced_table` on the same log, by its length:
+
+{pattern_table(counts)}
 
 Nanoseconds a reading, the median of many calls: proved / plain C / plain Rust:
 

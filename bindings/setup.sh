@@ -1,8 +1,5 @@
 # Sourced by the commands that use the proved library: it is in FINDER_LIB_DIR, and is built first where that is not set.
 
-need() { command -v "$1" >/dev/null || apt-get install -y "$2" >/dev/null; }
-
-need gcc gcc
 if [ -z "${FINDER_LIB_DIR:-}" ]; then
     root=$(realpath "$(dirname "${BASH_SOURCE[0]}")/..")
     (cd "$root" && rt staticlib cabinet)

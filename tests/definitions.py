@@ -2,6 +2,7 @@
 
 Lengths and positions are counted from 1 as in the definitions; j is a number of readings skipped, from 0.
 """
+from functools import cache
 
 LONGEST = 4096
 CEILING = 20
@@ -10,9 +11,10 @@ CEILING = 20
 def occurrences(x, q, i):
     """Where the first q readings occur, ending at or before i."""
     pattern = x[:q]
-    return [j for j in range(i - q + 1) if x[j:j + q] == pattern]
+    return [j for j in range(i - q + 1) if x.startswith(pattern, j)]
 
 
+@cache
 def covered(x, i, q):
     """How many of the first i positions the first q readings cover."""
     count = end = 0

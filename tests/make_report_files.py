@@ -1,13 +1,12 @@
-"""Makes the files of the program report_files, good and bad, and what it must write about them: python3 tests/make_report_files.py
+"""Makes the files of the program report_files, good and bad, and what it must write about them: python3 tests/make_report_files.py crates/report_files
 
 The answers come from definitions.py, by brute force, and not from the program.
 """
 import shutil
+import sys
 from pathlib import Path
 
 from definitions import LONGEST, report
-
-CRATE = Path(__file__).parent.parent / "crates" / "report_files"
 
 LOG = bytes([4, 20, 4, 20, 4, 4, 20, 4, 20, 4])
 
@@ -60,8 +59,8 @@ def files():
     yield "first_size_then_symbol", plant_file(bytes([21, 21]), field=3)
 
 
-def main():
-    data = CRATE / "data"
+def main(crate):
+    data = crate / "data"
     shutil.rmtree(data, ignore_errors=True)
     data.mkdir()
     names, said = [], []
@@ -70,9 +69,9 @@ def main():
         said.append(f"{name}\n" + ("missing\n" if content is None else report(content)))
         if content is not None:
             (data / name).write_bytes(content)
-    (CRATE / "args").write_text("".join(f"{name}\n" for name in names))
-    (CRATE / "stdout").write_text("".join(said))
+    (crate / "args").write_text("".join(f"{name}\n" for name in names))
+    (crate / "stdout").write_text("".join(said))
 
 
 if __name__ == "__main__":
-    main()
+    main(Path(sys.argv[1]))

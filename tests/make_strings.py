@@ -1,12 +1,11 @@
-"""Makes what the program strings must write: python3 tests/make_strings.py
+"""Makes what the program strings must write: python3 tests/make_strings.py crates/strings
 
 The lines come from definitions.py, by brute force. Where the table of strings with known results prints a line, the two must agree.
 """
+import sys
 from pathlib import Path
 
 import definitions as by
-
-STDOUT = Path(__file__).parent.parent / "crates" / "strings" / "stdout"
 
 STRINGS = {
     "P1": "a",
@@ -86,7 +85,7 @@ def check(name, lines):
         assert known in map(without_filler, lines), f"{name}: {known}"
 
 
-def main():
+def main(crate):
     said = []
     for name, x in STRINGS.items():
         lines = string_lines(x)
@@ -96,8 +95,8 @@ def main():
         lines = window_lines(STRINGS["P6"], a, m)
         check(f"window {a} {m}", lines)
         said += [by.line("window", [a, m]), *lines]
-    STDOUT.write_text("".join(said))
+    (crate / "stdout").write_text("".join(said))
 
 
 if __name__ == "__main__":
-    main()
+    main(Path(sys.argv[1]))

@@ -80,8 +80,10 @@ fn check_window(log: &[u8], (a, m): (usize, usize), rows: &Rows, (short, room): 
     let mut rooms = [log.len() + 3; 5];
     rooms[short] = room;
     let mut lent = rooms.map(|room| Lent::new(room, chance));
-    let [border, prefix, cover, best, count] = lent.each_mut().map(Lent::table);
-    let answer = finder::window(log, a, m, &mut Tables { border, prefix, cover, best, count });
+    let [border, prefix, cover, best, count] = &mut lent;
+    let mut tables =
+        Tables { border: border.table(), prefix: prefix.table(), cover: cover.table(), best: best.table(), count: count.table() };
+    let answer = finder::window(log, a, m, &mut tables);
     assert_eq!(answer, reference::judge_window(log.len(), a, m, &rooms).map(|()| rows.total));
     let columns = [&rows.border, &rows.prefix, &rows.cover, &rows.best, &rows.count];
     for (lent, column) in lent.iter().zip(columns) {

@@ -1,17 +1,24 @@
-// Makes the file of each text that an argument names. Prints what is said of the text, or the length of the file and its first bytes.
+// Makes the file of each text that an argument names. Prints what is said of the text, or the length of the file and its first bytes. A function that
+// prints answers whether all of it was written.
 ghost use Prim.Native.Nat.{_≤_};
 
-fn print_byte(b: u8) {
-    io::write_all(1, b" ");
-    io::print_decimal(1, b as u64);
+fn print_byte(b: u8) -> bool {
+    if io::write_all(1, b" ") {
+        io::print_decimal(1, b as u64)
+    } else {
+        false
+    }
 }
 
-fn print_bytes(s: &[u8]) {
+fn print_bytes(s: &[u8]) -> bool {
     let mut i = 0;
     while i < s.len() {
-        print_byte(s[i]);
+        if !print_byte(s[i]) {
+            return false;
+        }
         i += 1;
     }
+    io::write_all(1, b"\n")
 }
 
 fn most(n: usize) -> usize
@@ -20,42 +27,53 @@ fn most(n: usize) -> usize
     if n < 16 { n } else { 16 }
 }
 
-fn print_file(file: &[u8]) {
-    if file.len() == 0 {
-        return;
+fn print_file(file: &[u8]) -> bool {
+    if !io::print_decimal(1, file.len() as u64) {
+        return false;
     }
-    io::print_decimal(1, file.len() as u64);
-    io::write_all(1, b" bytes:");
+    if !io::write_all(1, b" bytes:") {
+        return false;
+    }
     let n = most(file.len());
-    print_bytes(&file[0..n]);
-    io::write_all(1, b"\n");
+    print_bytes(&file[0..n])
 }
 
-fn make(from: i32) {
-    let mut file = [0u8; 4099];
-    let n = ppm_lines::make_file(from, 1, &mut file);
-    print_file(&file[..n]);
+fn make(from: i32) -> bool {
+    let mut file = [0u8; ppm_lines::LONGEST_FILE];
+    let made = ppm_lines::make_file(from, 1, &mut file);
+    let n = made.len;
+    if n == 0 {
+        return made.said;
+    }
+    print_file(&file[..n])
 }
 
-fn one(k: usize) {
+fn one(k: usize) -> bool {
     let mut path = io::buffer();
     let n = os::arg(k, &mut path);
-    io::write_all(1, &path[..n]);
-    io::write_all(1, b": ");
+    if !io::write_all(1, &path[..n]) {
+        return false;
+    }
+    if !io::write_all(1, b": ") {
+        return false;
+    }
     let from = os::open_read(&path[..n]);
     if from < 0 {
-        io::write_all(1, b"missing\n");
-        return;
+        return io::write_all(1, b"missing\n");
     }
-    make(from);
+    let all = make(from);
     libc::close(from);
+    all
 }
 
 fn main() {
     let count = os::arg_count();
     let mut k = 1;
     while k < count {
-        one(k);
+        if !one(k) {
+            output::fail(2);
+            return;
+        }
         k += 1;
     }
 }

@@ -4,6 +4,9 @@ ghost use Rattle.ppm_text.specs.States.{Room, After, Holds};
 use ppm_text::Fault;
 use ppm_text::State;
 
+// The bytes of the file of the longest log.
+pub const LONGEST_FILE: usize = 3 + words::LONGEST;
+
 // How the input stands after a read.
 pub enum Input {
     More,
@@ -73,77 +76,89 @@ fn read_text(from: i32, file: &mut [u8]) -> Reading
     t
 }
 
-// Says what is wrong with a line.
-fn say_line(to: i32, number: u64, what: &[u8]) {
-    io::write_all(to, b"line ");
-    io::print_decimal(to, number);
-    io::write_all(to, b": ");
-    io::write_all(to, what);
-    io::write_all(to, b"\n");
+// Says what is wrong with a line, and answers whether all of it was written.
+fn say_line(to: i32, number: u64, what: &[u8]) -> bool {
+    if !io::write_all(to, b"line ") {
+        return false;
+    }
+    if !io::print_decimal(to, number) {
+        return false;
+    }
+    if !io::write_all(to, b": ") {
+        return false;
+    }
+    if !io::write_all(to, what) {
+        return false;
+    }
+    io::write_all(to, b"\n")
 }
 
-// Says what is wrong with a text.
-fn say_fault(to: i32, f: Fault, number: u64) {
+// Says what is wrong with a text, and answers whether all of it was written.
+fn say_fault(to: i32, f: Fault, number: u64) -> bool {
     match f {
-        Fault::Nothing => {}
-        Fault::NoNumber => {
-            say_line(to, number, b"not a number");
-        }
-        Fault::LongNumber => {
-            say_line(to, number, b"more than 6 digits");
-        }
-        Fault::Many => {
-            say_line(to, number, b"more than 4096 readings");
-        }
-        Fault::Empty => {
-            io::write_all(to, b"no reading\n");
-        }
+        Fault::Nothing => true,
+        Fault::NoNumber => say_line(to, number, b"not a number"),
+        Fault::LongNumber => say_line(to, number, b"more than 6 digits"),
+        Fault::Many => say_line(to, number, b"more than 4096 readings"),
+        Fault::Empty => io::write_all(to, b"no reading\n"),
     }
 }
 
-// Ends the text and answers the length of its file, or 0 where something is wrong, which it says.
-fn finish(t: Reading, say: i32, file: &mut [u8]) -> usize
+// The length of the file that was made, 0 where something is wrong; and whether that could be said.
+pub struct Making {
+    pub len: usize,
+    pub said: bool,
+}
+
+// Ends the text and its file. What is wrong is said.
+fn finish(t: Reading, say: i32, file: &mut [u8]) -> Making
     requires { ⌜ After (t .state) (now file) ⌝ }
-    ensures { λ r. ⌜ Holds r (now (file .exit)) ⌝ }
+    ensures { λ r. ⌜ Holds (r .len) (now (file .exit)) ⌝ }
 {
     let input = t.input;
     if !is_end(input) {
-        io::write_all(say, b"the input cannot be read\n");
-        return 0;
+        return Making {
+            len: 0,
+            said: io::write_all(say, b"the input cannot be read\n"),
+        };
     }
     let s = t.state;
     let e = ppm_text::end_text(s, file);
     let fault = e.fault;
     if ppm_text::is_fault(fault) {
-        say_fault(say, fault, e.number);
-        return 0;
+        return Making {
+            len: 0,
+            said: say_fault(say, fault, e.number),
+        };
     }
-    3 + e.readings
+    Making {
+        len: 3 + e.readings,
+        said: true,
+    }
 }
 
-// Reads a text to its end and makes its file. Answers the file's length, or 0 where something is wrong, which it says.
-pub fn make_file(from: i32, say: i32, file: &mut [u8; 4099]) -> usize
-    ensures { λ r. ⌜ Holds r (now (file .exit)) ⌝ }
+// Reads a text to its end and makes its file. What is wrong is said.
+pub fn make_file(from: i32, say: i32, file: &mut [u8; LONGEST_FILE]) -> Making
+    ensures { λ r. ⌜ Holds (r .len) (now (file .exit)) ⌝ }
 {
     let t = read_text(from, file);
     finish(t, say, file)
 }
 
 // Writes a file: of some text, and one that the plant's reader accepts.
-fn put(to: i32, file: &[u8]) -> bool
+fn put(to: i32, say: i32, file: &[u8])
     requires { ⌜ Made (now file) ⌝ }
 {
-    io::write_all(to, file)
+    output::write(to, say, file);
 }
 
 // From a text of readings to the plant's file. What is wrong is said apart.
 pub fn run(from: i32, to: i32, say: i32) {
-    let mut file = [0u8; 4099];
-    let n = make_file(from, say, &mut file);
+    let mut file = [0u8; LONGEST_FILE];
+    let made = make_file(from, say, &mut file);
+    let n = made.len;
     if n == 0 {
         return;
     }
-    if !put(to, &file[..n]) {
-        io::write_all(say, b"the file cannot be written\n");
-    }
+    put(to, say, &file[..n]);
 }

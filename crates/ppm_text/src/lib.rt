@@ -84,7 +84,7 @@ fn with_reading(s: State, ppm: u32, file: &mut [u8]) -> State
     ensures { λ r. ⌜ EndsLine s (now (file .entry)) (Said.Reading ppm) r (now (file .exit)) ⌝ }
 {
     let n = s.readings;
-    if n < 4096 {
+    if n < words::LONGEST {
         file[3 + n] = ppm_line::symbol(ppm);
         return new_line(s, n + 1);
     }

@@ -29,40 +29,37 @@ pub const BEST_PATTERN: u8 = 25;
 
 pub const PLANT_FILE: u8 = 26;
 
-fn column(call: u8) {
+fn column(whole: bool, call: u8) -> bool {
     match call {
-        BORDER => say(b" border_table"),
-        PREFIX => say(b" prefix_table"),
-        COVER => say(b" cover_table"),
-        BEST => say(b" enhanced_table, best"),
-        COUNT => say(b" enhanced_table, count"),
-        ENHANCED => say(b" enhanced_table"),
-        _ => say(b" window"),
+        BORDER => say(whole, b" border_table"),
+        PREFIX => say(whole, b" prefix_table"),
+        COVER => say(whole, b" cover_table"),
+        BEST => say(whole, b" enhanced_table, best"),
+        COUNT => say(whole, b" enhanced_table, count"),
+        ENHANCED => say(whole, b" enhanced_table"),
+        _ => say(whole, b" window"),
     }
 }
 
-fn answer(call: u8) {
+fn answer(whole: bool, call: u8) -> bool {
     match call {
-        NORMAL => say(b" normal_form"),
-        BREAKDOWN => say(b" breakdown"),
-        COVER_TEST => say(b" cover_test"),
-        COVER_LIST => say(b" cover_list"),
-        WEIGHED => say(b" weighed_list"),
-        BEST_PATTERN => say(b" best_pattern"),
-        _ => say(b" file"),
+        NORMAL => say(whole, b" normal_form"),
+        BREAKDOWN => say(whole, b" breakdown"),
+        COVER_TEST => say(whole, b" cover_test"),
+        COVER_LIST => say(whole, b" cover_list"),
+        WEIGHED => say(whole, b" weighed_list"),
+        BEST_PATTERN => say(whole, b" best_pattern"),
+        _ => say(whole, b" file"),
     }
 }
 
 // Prints the name.
-pub fn name(call: u8) {
+pub fn name(whole: bool, call: u8) -> bool {
     if NORMAL <= call {
-        answer(call);
-        return;
+        return answer(whole, call);
     }
     if WINDOW < call {
-        say(b" window,");
-        column(call - WINDOW);
-        return;
+        return column(say(whole, b" window,"), call - WINDOW);
     }
-    column(call);
+    column(whole, call)
 }

@@ -77,9 +77,9 @@ fn last_symbols(t: Tally, n: usize, symbols: usize) -> Tally {
     about(t3, n, symbols, 255)
 }
 
-// Files of up to the greatest length, and just past it: answers how much differed.
-pub fn long() -> u64 {
-    let t1 = last_symbols(Tally::new(), 1, 1);
+// Files of up to the greatest length, and just past it.
+pub fn long(t: Tally) -> Tally {
+    let t1 = last_symbols(t, 1, 1);
     let t2 = last_symbols(t1, 255, 255);
     let t3 = last_symbols(t2, 256, 256);
     let t4 = last_symbols(t3, 4095, 4095);

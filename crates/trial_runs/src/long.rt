@@ -21,22 +21,28 @@ fn some_windows(t: Tally, x: &[u8]) -> Tally {
     trial_windows::at(t3, w, x, 3947, 150)
 }
 
-fn written(kind: u8, x: &mut [u8]) -> u64 {
+fn written(t: Tally, kind: u8, x: &mut [u8]) -> Tally {
     let w = Way {
         was: STRANGE,
         first: 400,
         every: 199,
     };
     write(kind, x);
-    let t1 = every_call(Tally::new(), Way::whole(STRANGE), first_of(x, 100));
+    let t1 = every_call(t, Way::whole(STRANGE), first_of(x, 100));
     let t2 = every_call(t1, w, x);
-    some_windows(t2, x).end(b" logs,")
+    some_windows(t2, x)
 }
 
-// A log of 4096 readings of this kind, its first hundred as a log of their own, and some windows: answers how much differed.
-pub fn of(kind: u8) -> u64 {
+// A log of 4096 readings of this kind, its first hundred as a log of their own, and some windows.
+pub fn of(t: Tally, kind: u8) -> Tally {
     let mut x = [0u8; 4096];
-    written(kind, &mut x)
+    let begun = t.say(
+        b", 4096 readings: border, prefix and limit at every row, the rest to row 400 and at every 199th, list of covers and total only by the cover tests and weighed lists of the finder itself; the first 100 and four windows in full:",
+    );
+    if !begun.whole {
+        return begun;
+    }
+    written(begun, kind, &mut x).end(b" logs,")
 }
 
 fn edge(t: Tally, x: &[u8], n: usize) -> Tally {
@@ -51,16 +57,19 @@ fn edge(t: Tally, x: &[u8], n: usize) -> Tally {
     trial_windows::at(t2, w, log, n, 1)
 }
 
-fn at_edges(x: &mut [u8]) -> u64 {
+fn at_edges(t: Tally, x: &mut [u8]) -> Tally {
     write(CYCLE, x);
-    let t1 = edge(Tally::new(), x, 0);
+    let t1 = edge(t, x, 0);
     let t2 = edge(t1, x, 1);
     let t3 = edge(t2, x, 4096);
-    edge(t3, x, 4097).end(b" logs,")
+    edge(t3, x, 4097)
 }
 
-// The least and the greatest lengths, and those just past them: answers how much differed.
-pub fn edges() -> u64 {
+// The least and the greatest lengths, and those just past them.
+pub fn edges(t: Tally) -> Tally {
     let mut x = [0u8; 4097];
-    at_edges(&mut x)
+    if !t.whole {
+        return t;
+    }
+    at_edges(t, &mut x).end(b" logs,")
 }

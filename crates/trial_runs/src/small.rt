@@ -79,6 +79,9 @@ fn numbered(t: Tally, what: u8, letters: &[u8], n: usize, v: usize) -> Tally {
     if 16 < n {
         return t;
     }
+    if !t.whole {
+        return t;
+    }
     spelled(t, what, letters, v, &mut x[0..n])
 }
 
@@ -90,20 +93,20 @@ fn of_length(t: Tally, what: u8, letters: &[u8], n: usize) -> Tally {
     seen
 }
 
-fn of_lengths(what: u8, letters: &[u8], from: usize, to: usize) -> Tally {
-    let mut seen = Tally::new();
+fn of_lengths(t: Tally, what: u8, letters: &[u8], from: usize, to: usize) -> Tally {
+    let mut seen = t;
     for n in from..=to {
         seen = of_length(seen, what, letters, n);
     }
     seen
 }
 
-// All logs of 1 to `most` letters: answers how much differed.
-pub fn logs(what: u8, letters: &[u8], most: usize) -> u64 {
-    of_lengths(what, letters, 1, most).end(b" logs,")
+// All logs of 1 to `most` letters.
+pub fn logs(t: Tally, what: u8, letters: &[u8], most: usize) -> Tally {
+    of_lengths(t, what, letters, 1, most).end(b" logs,")
 }
 
-// All files of up to `most` bytes: answers how much differed.
-pub fn files(letters: &[u8], most: usize) -> u64 {
-    of_lengths(FILES, letters, 0, most).end(b" files,")
+// All files of up to `most` bytes.
+pub fn files(t: Tally, letters: &[u8], most: usize) -> Tally {
+    of_lengths(t, FILES, letters, 0, most).end(b" files,")
 }

@@ -147,11 +147,10 @@ pub fn judge_window(n: usize, a: usize, m: usize, rooms: &[usize]) -> Result<(),
 }
 
 pub fn symbols(file: &[u8]) -> Result<&[u8], Refusal> {
-    let &[version, high, low, ref symbols @ ..] = file else {
-        return Err(Refusal::File);
-    };
-    let n = usize::from(high) * 256 + usize::from(low);
-    first(&[(version != 1, Refusal::Version)])?;
+    first(&[(file.len() < 3, Refusal::File)])?;
+    let (header, symbols) = file.split_at(3);
+    let n = usize::from(header[1]) * 256 + usize::from(header[2]);
+    first(&[(header[0] != 1, Refusal::Version)])?;
     judge_log(n)?;
     first(&[(symbols.len() != n, Refusal::File), (symbols.iter().any(|&s| s > 20), Refusal::Symbol)])?;
     Ok(symbols)

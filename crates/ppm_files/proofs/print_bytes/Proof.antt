@@ -6,10 +6,10 @@ use Rattle.ppm_files.proofs.print_bytes.Statement.{statement}
 use Rattle.ppm_files.proofs.print_bytes.Tie as tie
 
 abbrev Inv-loop : tie.InvT-loop
-Inv-loop s i₀ i = i ≤ length s
+Inv-loop s i₀ more i = i ≤ length s
 
 abbrev μ-loop : tie.MeasureT-loop
-μ-loop s i₀ i = length s - i
+μ-loop s i₀ more i = length s - i
 
 pub print-bytes-spec : {M : Type 1} → statement M
 print-bytes-spec =
@@ -23,4 +23,7 @@ print-bytes-spec =
     (λ c. search needs)
     (λ c. search needs)
     (λ c. search needs)
+    (λ c. search needs)
+    (λ c. search needs)
+    (λ c κs. search needs)
     (λ c. search needs))

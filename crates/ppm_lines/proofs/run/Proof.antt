@@ -12,7 +12,4 @@ run-spec =
     (λ c. search needs)
     (λ c. search needs)
     (λ c κs. c .before .before .make-file .ensures .made (c .before .if1 .left))
-    (λ c. search needs)
-    (λ c κs. search needs)
-    (λ c. search needs)
     (λ c. search needs))

@@ -6,10 +6,10 @@ use Rattle.trial_base.proofs.tally.readings.Statement.{statement}
 use Rattle.trial_base.proofs.tally.readings.Tie as tie
 
 abbrev Inv-loop : tie.InvT-loop
-Inv-loop x k₀ k = Unit {0}
+Inv-loop whole x all₀ k₀ all k = Unit {0}
 
 abbrev μ-loop : tie.MeasureT-loop
-μ-loop x k₀ k = length x - k
+μ-loop whole x all₀ k₀ all k = length x - k
 
 pub readings-spec : {M : Type 1} → statement M
 readings-spec =

@@ -16,7 +16,6 @@ of-lengths-spec =
     (tie.spec
     Inv-loop
     μ-loop
-    (λ c κs. search needs)
     (λ c. search needs)
     (λ c κs. search needs)
     (λ c. search needs)
