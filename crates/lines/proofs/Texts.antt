@@ -189,10 +189,11 @@ unfolding tail
 ended-put t p q = put-put p q
 
 -- `line` and `numbered`
-pub line-says : (w t : List ℕ) {a b c : List ℕ} {e r : ℕ} → Put a 0 w b e → Put b e (tail t) c r → take r c ≡ line w t
+pub line-put : (w t : List ℕ) {a b c : List ℕ} {at e r : ℕ} → Put a at w b e → Put b e (tail t) c r → Put a at (line w t) c r
 unfolding line
-line-says w t p q = put-put p q .says
+line-put w t p q = put-put p q
 
 -- `counted`
-pub counted-says : (w : List ℕ) (n : ℕ) {a b c d : List ℕ} {e f r : ℕ} → Put a 0 w b e → Put b e (field n) c f → Put c f (10 ∷ []) d r → take r d ≡ line w (n ∷ [])
-counted-says w n p q s = line-says w (n ∷ []) p (ended-put (n ∷ []) (rw (fields-one n) q) s)
+pub counted-put : (w : List ℕ) (n : ℕ) {a b c d : List ℕ} {at e f r : ℕ} → Put a at w b e → Put b e (field n) c f → Put c f (10 ∷ []) d r
+    → Put a at (line w (n ∷ [])) d r
+counted-put w n p q s = line-put w (n ∷ []) p (ended-put (n ∷ []) (rw (fields-one n) q) s)
