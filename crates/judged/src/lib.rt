@@ -9,7 +9,6 @@ ghost use Rattle.words.specs.Tables.{borderRow, prefixRow, coverRow, bestRow, c
 ghost use Rattle.words.specs.Answers.{breakdownPlaces, broken, listed};
 ghost use Rattle.words.proofs.Tables.{Room, Holds};
 ghost use Rattle.words.proofs.Refusals.{Judged};
-ghost use Rattle.words.proofs.Weighs.{heaviestRow};
 
 // The border table of x, then its cover table.
 pub fn borders_and_covers(x: &[u8], border: &mut [u16], cover: &mut [u16])

@@ -1,7 +1,6 @@
 // Floor 4: the bodies of the programs `report` and `rows`. A file's way: bytes, number, symbols, answers, text; the text is written once.
 mod table;
 
-ghost use mathlib.Core.Path.{_≡_};
 ghost use Prim.Native.Nat.{_≤_};
 ghost use lib.ListN.{length};
 ghost use Rattle.lines.specs.Text.{Says};
@@ -32,7 +31,7 @@ pub fn rows_text(f: &[u8], text: &mut [u8]) -> usize
     if no != 0 {
         return facts::refused(no, text);
     }
-    table::text(logfile::symbols(f), text)
+    table::put(logfile::symbols(f), text)
 }
 
 // Reads a file and writes the report on it. Whether it was written whole.

@@ -1,4 +1,4 @@
-// The text of the rows, behind each other in a lent buffer.
+// The text of the rows, line behind line in a lent buffer.
 ghost use mathlib.Core.Path.{_≡_};
 ghost use mathlib.Core.List.{[], _∷_};
 ghost use Prim.Native.Nat.{_+_, _*_, _≤_};
@@ -76,8 +76,8 @@ fn told(
     lines::counted(text, end, b"total", total as usize)
 }
 
-// The text of the rows of an accepted log.
-pub fn text(x: &[u8], text: &mut [u8]) -> usize
+// Puts the whole text of an accepted log.
+pub fn put(x: &[u8], text: &mut [u8]) -> usize
     requires { ⌜ Judged (length (now x)) × (Texts.rowsRoom ≤ length (now text)) ⌝ }
     ensures { λ e. ⌜ Says (now (text .exit)) e (Texts.rowsText (now (x .entry))) ⌝ }
 {
