@@ -50,18 +50,9 @@ module _ {x before text : List ℕ} {end r : ℕ} (d : Rowed x before text end r
       put = rw add-one (put-put (d .put) (rw row-is at p));
     }
 
-  module _ (h : length x ≤ r) where
-    all : r ≡ length x
-    all = omega (arith, d .within)
-
-    pub rowed-all : Put before 0 (rowLines x (length x)) text end
-    rowed-all = rw all at (d .put)
-
-    pub rowed-short : end ≤ rowRoom * length x
-    rowed-short = omega (arith, d .short, d .within)
-
--- `told`
-pub rows-said : (x : List ℕ) {n : ℕ} {a b c : List ℕ} {e r : ℕ} → n ≡ total eqb x → Put a 0 (rowLines x (length x)) b e
-    → Put b e (line (bytes "total") (n ∷ [])) c r → take r c ≡ rowsText x
-unfolding rowsText
-rows-said x n p q = rw n at (put-put p q .says)
+  -- the total behind the last row
+  pub rowed-said : {n e : ℕ} {b : List ℕ} → length x ≤ r → n ≡ total eqb x → Put text end (line (bytes "total") (n ∷ [])) b e → take e b ≡ rowsText x
+  unfolding rowsText
+  rowed-said h n q =
+      let all : r ≡ length x = omega (arith, d .within) in
+      rw (all, n) at (put-put (d .put) q .says)

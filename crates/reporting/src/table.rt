@@ -1,7 +1,7 @@
 // The text of the rows, line behind line in a lent buffer.
 ghost use mathlib.Core.Path.{_≡_};
 ghost use mathlib.Core.List.{[], _∷_};
-ghost use Prim.Native.Nat.{_+_, _*_, _≤_};
+ghost use Prim.Native.Nat.{_+_, _≤_};
 ghost use lib.Dec.{eqb};
 ghost use lib.ListN.{length, getD};
 ghost use Rattle.words.specs.Words as Words;
@@ -35,31 +35,8 @@ fn row(
     )
 }
 
-// Puts every row.
-fn rows(
-    x: &[u8],
-    border: &[u16],
-    prefix: &[u16],
-    cover: &[u16],
-    best: &[u16],
-    count: &[u16],
-    text: &mut [u8],
-) -> usize
-    requires { ⌜ Texts.Columns (now x) (now border) (now prefix) (now cover) (now best) (now count) (now text) ⌝ }
-    ensures put { λ e. ⌜ Put (now (text .entry)) 0 (Texts.rowLines (now (x .entry)) (length (now (x .entry)))) (now (text .exit)) e ⌝ }
-    ensures short { λ e. ⌜ e ≤ Texts.rowRoom * length (now (x .entry)) ⌝ }
-{
-    let mut end = 0;
-    let mut r = 0;
-    while r < x.len() {
-        end = row(r, border, prefix, cover, best, count, text, end);
-        r += 1;
-    }
-    end
-}
-
 // Puts every row, and behind them the weighed total.
-fn told(
+fn rows(
     x: &[u8],
     border: &[u16],
     prefix: &[u16],
@@ -72,7 +49,12 @@ fn told(
     requires { ⌜ Texts.Columns (now x) (now border) (now prefix) (now cover) (now best) (now count) (now text) × (total ≡ Words.total eqb (now x)) ⌝ }
     ensures { λ e. ⌜ Says (now (text .exit)) e (Texts.rowsText (now (x .entry))) ⌝ }
 {
-    let end = rows(x, border, prefix, cover, best, count, text);
+    let mut end = 0;
+    let mut r = 0;
+    while r < x.len() {
+        end = row(r, border, prefix, cover, best, count, text, end);
+        r += 1;
+    }
     lines::counted(text, end, b"total", total as usize)
 }
 
@@ -94,5 +76,5 @@ pub fn put(x: &[u8], text: &mut [u8]) -> usize
         &mut best,
         &mut count,
     );
-    told(x, &border, &prefix, &cover, &best, &count, total, text)
+    rows(x, &border, &prefix, &cover, &best, &count, total, text)
 }
