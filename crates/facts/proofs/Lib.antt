@@ -1,1 +1,1 @@
-mod Answered
+mod Lines

@@ -1,51 +1,54 @@
--- The report, line by line. Assumes nothing.
-use mathlib.Core.Bool.{cond}
-use mathlib.Core.List.{List, [], _∷_}
+-- The text of the report. Assumes nothing.
+use mathlib.Core.Bool.{Bool, cond}
+use mathlib.Core.Path.{_≡_}
+use mathlib.Core.List.{List, [], _∷_, _++_}
 use Prim.Native.Nat.{ℕ, _+_, _*_, _≤_}
 use lib.Dec.{eqb}
 use lib.ListN.{length}
+use Rattle.words.specs.declared.Part.{Part}
 use Rattle.words.specs.Words as W
 use Rattle.words.specs.Refusals.{longest}
+use Rattle.words.specs.Answers.{weighedPlaces}
 use Rattle.words.specs.PlantFile as F
 use Rattle.words.proofs.Refusals.{Judged}
+use Rattle.summary.specs.declared.Summary.{Summary}
+use Rattle.summary.specs.Whole.{summaryOf}
 use Rattle.lines.specs.Text.{bytes, fieldRoom, line}
 
--- a refused file, with its number
-abbrev pub refusedLine : ℕ → List ℕ
-refusedLine k = line (bytes "refused") (k ∷ [])
+-- the text on a refused file: its number
+unfoldable pub refusedText : ℕ → List ℕ
+refusedText k = line (bytes "refused") (k ∷ [])
 
--- the symbols x of an accepted file
-module _ (x : List ℕ) where
-  abbrev pub logLine : List ℕ
-  logLine = line (bytes "log") (length x ∷ [])
+-- the lines on a log's shape, on its borders, and on its readings at the ceiling
+unfoldable pub shapeLines : ℕ → Part → List ℕ → List ℕ
+shapeLines n f covers = line (bytes "log") (n ∷ []) ++ line (bytes "normal") (f .k1 ∷ f .k2 ∷ f .k ∷ []) ++ line (bytes "covers") covers
 
-  unfoldable pub normalLine : List ℕ
-  normalLine = let f = W.normal eqb x (length x) in line (bytes "normal") (f .k1 ∷ f .k2 ∷ f .k ∷ [])
+unfoldable pub borderLines : ℕ → ℕ → List ℕ → List ℕ
+borderLines best count weighed = line (bytes "best") (best ∷ count ∷ []) ++ line (bytes "weighed") weighed
 
-  unfoldable pub coversLine : List ℕ
-  coversLine = line (bytes "covers") (W.coverList eqb x)
+unfoldable pub ceilingLines : ℕ → Bool → List ℕ
+ceilingLines k held = line (bytes "ceiling") (k ∷ []) ++ line (bytes "held") (cond held 1 0 ∷ [])
 
-  unfoldable pub bestLine : List ℕ
-  bestLine = line (bytes "best") (W.best eqb x (length x) ∷ W.count eqb x (length x) ∷ [])
+-- the text on the symbols x of an accepted file
+unfoldable pub reportText : List ℕ → List ℕ
+reportText x =
+    let n = length x in
+    shapeLines n (W.normal eqb x n) (W.coverList eqb x)
+    ++ borderLines (W.best eqb x n) (W.count eqb x n) (W.weighed eqb x n)
+    ++ ceilingLines (F.ceiling x) (F.held x)
 
-  unfoldable pub weighedLine : List ℕ
-  weighedLine = line (bytes "weighed") (W.weighed eqb x (length x))
+-- the room of a line: a word of at most seven letters, k entries of a table, and the line's end
+abbrev pub lineRoom : ℕ → ℕ
+lineRoom k = 8 + fieldRoom * k
 
-  unfoldable pub ceilingLine : List ℕ
-  ceilingLine = line (bytes "ceiling") (F.ceiling x ∷ [])
+-- the room of the text: six lines with no more entries than a weighed list has places, and the covers of the longest log
+abbrev pub reportRoom : ℕ
+reportRoom = 6 * lineRoom weighedPlaces + lineRoom longest
 
-  unfoldable pub heldLine : List ℕ
-  heldLine = line (bytes "held") (cond (F.held x) 1 0 ∷ [])
-
-  -- all of it, in this order
-  unfoldable pub report : List (List ℕ)
-  report = logLine ∷ normalLine ∷ coversLine ∷ bestLine ∷ weighedLine ∷ ceilingLine ∷ heldLine ∷ []
-
--- the room of every line here: the longest lists the covers of the longest log
-abbrev pub lineRoom : ℕ
-lineRoom = 8 + fieldRoom * longest
-
--- what a function that makes a line is lent: an accepted log, and the room
-pub record Lent (x l : List ℕ) : Type 0 where
+-- what is put of an accepted log x, and the room for it
+pub record Facts (x : List ℕ) (s : Summary) (covers weighed text : List ℕ) : Type 0 where
   pub judged : Judged (length x)
-  pub room : lineRoom ≤ length l
+  pub summed : s ≡ summaryOf x
+  pub covered : covers ≡ W.coverList eqb x
+  pub weighs : weighed ≡ W.weighed eqb x (length x)
+  pub room : reportRoom ≤ length text

@@ -1,82 +1,57 @@
-// Floor 4: the lines of the report. Each function makes one, at the start of the lent line, and returns where it ends.
+// Floor 4: the report on an accepted log, as one text in a lent buffer.
 ghost use mathlib.Core.Path.{_≡_};
-ghost use mathlib.Core.List.{[]};
 ghost use mathlib.Core.Bool.{cond};
-ghost use Prim.Native.Nat.{_+_, _*_, _≤_, _<_};
-ghost use lib.ListN.{length, getD};
-ghost use Rattle.lines.specs.Text.{Says};
+ghost use Prim.Native.Nat.{_+_, _*_, _≤_};
+ghost use lib.ListN.{length};
+ghost use Rattle.words.specs.Refusals.{longest};
+ghost use Rattle.words.specs.Answers.{weighedPlaces};
+ghost use Rattle.words.proofs.Refusals.{Judged};
+ghost use Rattle.lines.specs.Text.{Put, Says};
 ghost use Rattle.facts.specs.Report as Report;
 
-// The room of every line here: the longest lists the covers of the longest log (`lineRoom` of specs/).
-pub const LINE: usize = 8 + lines::FIELD * words::LONGEST;
+// The room of a line that lists the entries of a weighed list or fewer, and of the whole text, where one line lists the covers of the longest log
+// (`lineRoom` and `reportRoom` of specs/).
+const LINE: usize = 8 + lines::FIELD * words::WEIGHED_PLACES;
 
-pub fn refused(no: u8, line: &mut [u8]) -> usize
-    requires { ⌜ Report.lineRoom ≤ length (now line) ⌝ }
-    ensures { λ r. ⌜ Says (now (line .exit)) r (Report.refusedLine no) ⌝ }
+pub const TEXT: usize = 6 * LINE + 8 + lines::FIELD * words::LONGEST;
+
+// The text on a refused file.
+pub fn refused(no: u8, text: &mut [u8]) -> usize
+    requires { ⌜ Report.lineRoom 1 ≤ length (now text) ⌝ }
+    ensures { λ r. ⌜ Says (now (text .exit)) r (Report.refusedText no) ⌝ }
 {
-    lines::line(line, b"refused", &[no as u16])
+    lines::line(text, 0, b"refused", &[no as u16])
 }
 
-fn log(x: &[u8], line: &mut [u8]) -> usize
-    requires { ⌜ Report.Lent (now x) (now line) ⌝ }
-    ensures { λ r. ⌜ Says (now (line .exit)) r (Report.logLine (now (x .entry))) ⌝ }
+// The length, the normal form and the covers.
+fn shape(n: u16, f: words::Part, covers: &[u16], text: &mut [u8]) -> usize
+    requires { ⌜ (length (now covers) ≤ longest) × (Report.reportRoom ≤ length (now text)) ⌝ }
+    ensures put { λ r. ⌜ Put (now (text .entry)) 0 (Report.shapeLines n f (now (covers .entry))) (now (text .exit)) r ⌝ }
+    ensures short { λ r. ⌜ r ≤ 2 * Report.lineRoom weighedPlaces + Report.lineRoom longest ⌝ }
 {
-    lines::line(line, b"log", &[x.len() as u16])
+    let log = lines::line(text, 0, b"log", &[n]);
+    let normal = lines::line(text, log, b"normal", &[f.k1, f.k2, f.k]);
+    lines::line(text, normal, b"covers", covers)
 }
 
-fn normal(x: &[u8], line: &mut [u8]) -> usize
-    requires { ⌜ Report.Lent (now x) (now line) ⌝ }
-    ensures { λ r. ⌜ Says (now (line .exit)) r (Report.normalLine (now (x .entry))) ⌝ }
+// Best, Count and the weighed borders.
+fn borders(best: u16, count: u16, weighed: &[u16], text: &mut [u8], at: usize) -> usize
+    requires { ⌜ (length (now weighed) ≤ weighedPlaces) × (at + 2 * Report.lineRoom weighedPlaces ≤ length (now text)) ⌝ }
+    ensures put { λ r. ⌜ Put (now (text .entry)) at (Report.borderLines best count (now (weighed .entry))) (now (text .exit)) r ⌝ }
+    ensures short { λ r. ⌜ r ≤ at + 2 * Report.lineRoom weighedPlaces ⌝ }
 {
-    let f = finder::normal_form(x, x.len());
-    lines::line(line, b"normal", &[f.k1, f.k2, f.k])
+    let end = lines::line(text, at, b"best", &[best, count]);
+    lines::line(text, end, b"weighed", weighed)
 }
 
-fn covers(x: &[u8], line: &mut [u8]) -> usize
-    requires { ⌜ Report.Lent (now x) (now line) ⌝ }
-    ensures { λ r. ⌜ Says (now (line .exit)) r (Report.coversLine (now (x .entry))) ⌝ }
+// How many readings are at the ceiling, and whether all of them are.
+fn ceilings(ceiling: u16, held: bool, text: &mut [u8], at: usize) -> usize
+    requires { ⌜ at + 2 * Report.lineRoom weighedPlaces ≤ length (now text) ⌝ }
+    ensures put { λ r. ⌜ Put (now (text .entry)) at (Report.ceilingLines ceiling held) (now (text .exit)) r ⌝ }
+    ensures short { λ r. ⌜ r ≤ at + 2 * Report.lineRoom weighedPlaces ⌝ }
 {
-    let mut t = [0u16; words::LONGEST];
-    let l = finder::cover_list(x, &mut t);
-    let used = words::wide(l.used);
-    lines::line(line, b"covers", &t[0..used])
-}
-
-fn best(x: &[u8], line: &mut [u8]) -> usize
-    requires { ⌜ Report.Lent (now x) (now line) ⌝ }
-    ensures { λ r. ⌜ Says (now (line .exit)) r (Report.bestLine (now (x .entry))) ⌝ }
-{
-    let mut best = [0u16; words::LONGEST];
-    let mut count = [0u16; words::LONGEST];
-    finder::enhanced_table(x, &mut best, &mut count);
-    let last = x.len() - 1;
-    lines::line(line, b"best", &[best[last], count[last]])
-}
-
-fn weighed(x: &[u8], line: &mut [u8]) -> usize
-    requires { ⌜ Report.Lent (now x) (now line) ⌝ }
-    ensures { λ r. ⌜ Says (now (line .exit)) r (Report.weighedLine (now (x .entry))) ⌝ }
-{
-    let w = finder::weighed_list(x, x.len());
-    let used = words::wide(w.used);
-    let lens = w.lens;
-    lines::line(line, b"weighed", &lens[0..used])
-}
-
-fn ceiling(x: &[u8], line: &mut [u8]) -> usize
-    requires { ⌜ Report.Lent (now x) (now line) ⌝ }
-    ensures { λ r. ⌜ Says (now (line .exit)) r (Report.ceilingLine (now (x .entry))) ⌝ }
-{
-    let count = logfile::ceiling(x);
-    lines::line(line, b"ceiling", &[count as u16])
-}
-
-fn held(x: &[u8], line: &mut [u8]) -> usize
-    requires { ⌜ Report.Lent (now x) (now line) ⌝ }
-    ensures { λ r. ⌜ Says (now (line .exit)) r (Report.heldLine (now (x .entry))) ⌝ }
-{
-    let held = flag(logfile::held(x));
-    lines::line(line, b"held", &[held])
+    let end = lines::line(text, at, b"ceiling", &[ceiling]);
+    lines::line(text, end, b"held", &[flag(held)])
 }
 
 fn flag(b: bool) -> u16
@@ -85,33 +60,29 @@ fn flag(b: bool) -> u16
     if b { 1 } else { 0 }
 }
 
-// How many lines the report has.
-const LINES: usize = 7;
-
-// The line after the first k.
-fn fact(k: usize, x: &[u8], line: &mut [u8]) -> usize
-    requires { ⌜ Report.Lent (now x) (now line) × (k < 7) ⌝ }
-    ensures { λ r. ⌜ Says (now (line .exit)) r (getD (Report.report (now (x .entry))) k []) ⌝ }
+// All of them, in this order.
+fn told(x: &[u8], s: summary::Summary, covers: &[u16], weighed: &[u16], text: &mut [u8]) -> usize
+    requires { ⌜ Report.Facts (now x) s (now covers) (now weighed) (now text) ⌝ }
+    ensures { λ r. ⌜ Says (now (text .exit)) r (Report.reportText (now (x .entry))) ⌝ }
 {
-    match k {
-        0 => log(x, line),
-        1 => normal(x, line),
-        2 => covers(x, line),
-        3 => best(x, line),
-        4 => weighed(x, line),
-        5 => ceiling(x, line),
-        _ => held(x, line),
-    }
+    let ceiling = logfile::ceiling(x);
+    let held = logfile::held(x);
+    let normal = s.normal;
+    let shaped = shape(x.len() as u16, normal, covers, text);
+    let weighed = borders(s.best, s.count, weighed, text, shaped);
+    ceilings(ceiling as u16, held, text, weighed)
 }
 
-// Prints the report on an accepted log.
-pub fn print(x: &[u8], line: &mut [u8])
-    requires { ⌜ Report.Lent (now x) (now line) ⌝ }
+// The text of the report on an accepted log.
+pub fn report(x: &[u8], text: &mut [u8]) -> usize
+    requires { ⌜ Judged (length (now x)) × (Report.reportRoom ≤ length (now text)) ⌝ }
+    ensures { λ r. ⌜ Says (now (text .exit)) r (Report.reportText (now (x .entry))) ⌝ }
 {
-    let mut k = 0;
-    while k < LINES {
-        let end = fact(k, x, line);
-        lines::print(line, end);
-        k += 1;
-    }
+    let mut covers = [0u16; words::LONGEST];
+    let s = summary::of(x, &mut covers);
+    let used = s.covers;
+    let weighed = s.weighed;
+    let lens = weighed.lens;
+    let few = words::wide(weighed.used);
+    told(x, s, &covers[0..used], &lens[0..few], text)
 }

@@ -1,1 +1,1 @@
-mod Work
+pub mod Work

@@ -9,10 +9,9 @@ ghost use Rattle.words.specs.Tables.{borderRow, prefixRow, coverRow, bestRow, c
 ghost use Rattle.words.specs.Answers.{breakdownPlaces, broken, listed};
 ghost use Rattle.words.proofs.Tables.{Room, Holds};
 ghost use Rattle.words.proofs.Refusals.{Judged};
-ghost use Rattle.words.proofs.Weighs.{heaviestRow};
 
 // The border table of x, then its cover table.
-fn borders_and_covers(x: &[u8], border: &mut [u16], cover: &mut [u16])
+pub fn borders_and_covers(x: &[u8], border: &mut [u16], cover: &mut [u16])
     requires { ⌜ Room (now x) (now border) × Room (now x) (now cover) ⌝ }
     ensures { λ _. ⌜ Holds borderRow (now (x .entry)) (now (border .exit)) × Holds coverRow (now (x .entry)) (now (cover .exit)) ⌝ }
 {

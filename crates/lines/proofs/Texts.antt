@@ -1,5 +1,4 @@
 -- Digits, and text put behind text. Assumes nothing.
-use mathlib.Core.Bool.{true, false, cond}
 use mathlib.Core.Path.{_≡_, refl, sym, ap, _∙_}
 use mathlib.Core.List.{List, [], _∷_, _++_, append-assoc, append-nil}
 use mathlib.Core.Logic.{⊎-elim}
@@ -8,9 +7,9 @@ use native.Mathlib.Nat.{pow-suc, mod-eq-of-lt, div-lt-iff-lt-mul, le-div-iff-mul
 use native.Mathlib.Numerals.{add-one}
 use native.Mathlib.Omega.{arith}
 use lib.Dec.{ltb}
-use lib.ListN.{length, getD, take, drop, set, length-append, length-set}
+use lib.ListN.{length, getD, take, set, length-append, length-set}
 use lib.Seq.{take-suc, take-suc-set, take-all}
-use borrow.Author.Tests.{lt-ltb, le-ltb, ltb-false}
+use borrow.Author.Tests.{lt-ltb, le-ltb}
 use mir.Syntax.{w64}
 use mir.Val.{Fits}
 use Rattle.io.specs.Digits as Io
@@ -189,10 +188,11 @@ unfolding tail
 ended-put t p q = put-put p q
 
 -- `line` and `numbered`
-pub line-says : (w t : List ℕ) {a b c : List ℕ} {e r : ℕ} → Put a 0 w b e → Put b e (tail t) c r → take r c ≡ line w t
+pub line-put : (w t : List ℕ) {a b c : List ℕ} {at e r : ℕ} → Put a at w b e → Put b e (tail t) c r → Put a at (line w t) c r
 unfolding line
-line-says w t p q = put-put p q .says
+line-put w t p q = put-put p q
 
 -- `counted`
-pub counted-says : (w : List ℕ) (n : ℕ) {a b c d : List ℕ} {e f r : ℕ} → Put a 0 w b e → Put b e (field n) c f → Put c f (10 ∷ []) d r → take r d ≡ line w (n ∷ [])
-counted-says w n p q s = line-says w (n ∷ []) p (ended-put (n ∷ []) (rw (fields-one n) q) s)
+pub counted-put : (w : List ℕ) (n : ℕ) {a b c d : List ℕ} {at e f r : ℕ} → Put a at w b e → Put b e (field n) c f → Put c f (10 ∷ []) d r
+    → Put a at (line w (n ∷ [])) d r
+counted-put w n p q s = line-put w (n ∷ []) p (ended-put (n ∷ []) (rw (fields-one n) q) s)

@@ -1,4 +1,4 @@
--- A line of text, in ASCII: a head, then numbers in decimal digits, each after a space. Assumes nothing.
+-- Lines of text, in ASCII: a head, then numbers in decimal digits, each after a space. Assumes nothing.
 use mathlib.Core.Bool.{cond}
 use mathlib.Core.Path.{_≡_}
 use mathlib.Core.List.{List, [], _∷_, _++_}
@@ -44,7 +44,7 @@ tail l = fields l ++ (10 ∷ [])
 unfoldable pub line : List ℕ → List ℕ → List ℕ
 line head l = head ++ tail l
 
--- what a call that puts text behind the first `at` bytes of a line leaves in it, with the new end r
+-- what a call that puts text behind the first `at` bytes of a buffer leaves in it, with the new end r
 pub record Put (before : List ℕ) (at : ℕ) (text after : List ℕ) (r : ℕ) : Type 0 where
   pub end : r ≡ at + length text
   pub says : take r after ≡ take at before ++ text

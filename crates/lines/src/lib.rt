@@ -1,5 +1,5 @@
-// Floor 4: a line of text, made in a lent buffer and written at once. `at` is how much of the buffer the text takes so far; each function that puts
-// something behind it returns where the text ends now.
+// Floor 4: lines of text, made in a lent buffer. `at` is how much of the buffer the text takes so far; each function puts something behind it and returns
+// where the text ends now.
 ghost use mathlib.Core.Path.{_≡_};
 ghost use mathlib.Core.List.{[], _∷_};
 ghost use Prim.Native.Nat.{_+_, _*_, _≤_, _<_};
@@ -14,37 +14,37 @@ pub const FIELD: usize = 6;
 // ---- pieces
 
 // Puts a word.
-fn word(line: &mut [u8], at: usize, w: &[u8]) -> usize
-    requires { ⌜ at + length (now w) ≤ length (now line) ⌝ }
-    ensures { λ r. ⌜ Text.Put (now (line .entry)) at (now (w .entry)) (now (line .exit)) r ⌝ }
+fn word(text: &mut [u8], at: usize, w: &[u8]) -> usize
+    requires { ⌜ at + length (now w) ≤ length (now text) ⌝ }
+    ensures { λ r. ⌜ Text.Put (now (text .entry)) at (now (w .entry)) (now (text .exit)) r ⌝ }
 {
     let mut i = 0;
     while i < w.len() {
-        line[at + i] = w[i];
+        text[at + i] = w[i];
         i += 1;
     }
     at + i
 }
 
 // Puts a number's digits.
-fn number(line: &mut [u8], at: usize, n: usize) -> usize
-    requires { ⌜ at + length (Text.decimal n) ≤ length (now line) ⌝ }
-    ensures text { λ r. ⌜ Text.Put (now (line .entry)) at (Text.decimal n) (now (line .exit)) r ⌝ }
+fn number(text: &mut [u8], at: usize, n: usize) -> usize
+    requires { ⌜ at + length (Text.decimal n) ≤ length (now text) ⌝ }
+    ensures put { λ r. ⌜ Text.Put (now (text .entry)) at (Text.decimal n) (now (text .exit)) r ⌝ }
     ensures short { λ r. ⌜ r ≤ at + Text.decimalRoom ⌝ }
 {
     let mut digits = [0u8; DECIMAL];
     let k = io::decimal(n as u64, &mut digits);
-    word(line, at, &digits[..k])
+    word(text, at, &digits[..k])
 }
 
 // Puts a space and a number.
-fn field(line: &mut [u8], at: usize, n: usize) -> usize
-    requires { ⌜ at + 1 + length (Text.decimal n) ≤ length (now line) ⌝ }
-    ensures text { λ r. ⌜ Text.Put (now (line .entry)) at (Text.field n) (now (line .exit)) r ⌝ }
+fn field(text: &mut [u8], at: usize, n: usize) -> usize
+    requires { ⌜ at + 1 + length (Text.decimal n) ≤ length (now text) ⌝ }
+    ensures put { λ r. ⌜ Text.Put (now (text .entry)) at (Text.field n) (now (text .exit)) r ⌝ }
     ensures short { λ r. ⌜ r ≤ at + 1 + Text.decimalRoom ⌝ }
 {
-    let end = word(line, at, b" ");
-    number(line, end, n)
+    let end = word(text, at, b" ");
+    number(text, end, n)
 }
 
 // An entry of a table as a number to put.
@@ -55,63 +55,59 @@ fn wide(n: u16) -> usize
 }
 
 // Puts a space and an entry, for each entry of t.
-fn fields(line: &mut [u8], at: usize, t: &[u16]) -> usize
-    requires { ⌜ at + Text.fieldRoom * length (now t) ≤ length (now line) ⌝ }
-    ensures text { λ r. ⌜ Text.Put (now (line .entry)) at (Text.fields (now (t .entry))) (now (line .exit)) r ⌝ }
+fn fields(text: &mut [u8], at: usize, t: &[u16]) -> usize
+    requires { ⌜ at + Text.fieldRoom * length (now t) ≤ length (now text) ⌝ }
+    ensures put { λ r. ⌜ Text.Put (now (text .entry)) at (Text.fields (now (t .entry))) (now (text .exit)) r ⌝ }
     ensures short { λ r. ⌜ r ≤ at + Text.fieldRoom * length (now (t .entry)) ⌝ }
 {
     let mut end = at;
     let mut i = 0;
     while i < t.len() {
-        end = field(line, end, wide(t[i]));
+        end = field(text, end, wide(t[i]));
         i += 1;
     }
     end
 }
 
 // Puts the entries of t behind a head, and ends the line.
-fn ended(line: &mut [u8], head: usize, t: &[u16]) -> usize
-    requires { ⌜ head + Text.fieldRoom * length (now t) + 1 ≤ length (now line) ⌝ }
-    ensures text { λ r. ⌜ Text.Put (now (line .entry)) head (Text.tail (now (t .entry))) (now (line .exit)) r ⌝ }
-    ensures within { λ r. ⌜ r ≤ length (now (line .exit)) ⌝ }
+fn ended(text: &mut [u8], head: usize, t: &[u16]) -> usize
+    requires { ⌜ head + Text.fieldRoom * length (now t) + 1 ≤ length (now text) ⌝ }
+    ensures put { λ r. ⌜ Text.Put (now (text .entry)) head (Text.tail (now (t .entry))) (now (text .exit)) r ⌝ }
+    ensures short { λ r. ⌜ r ≤ head + Text.fieldRoom * length (now (t .entry)) + 1 ⌝ }
 {
-    let listed = fields(line, head, t);
-    word(line, listed, b"\n")
+    let listed = fields(text, head, t);
+    word(text, listed, b"\n")
 }
 
 // ---- lines
 
 // A word and the entries of t.
-pub fn line(line: &mut [u8], w: &[u8], t: &[u16]) -> usize
-    requires { ⌜ length (now w) + Text.fieldRoom * length (now t) + 1 ≤ length (now line) ⌝ }
-    ensures { λ r. ⌜ Text.Says (now (line .exit)) r (Text.line (now (w .entry)) (now (t .entry))) ⌝ }
+pub fn line(text: &mut [u8], at: usize, w: &[u8], t: &[u16]) -> usize
+    requires { ⌜ at + length (now w) + Text.fieldRoom * length (now t) + 1 ≤ length (now text) ⌝ }
+    ensures put { λ r. ⌜ Text.Put (now (text .entry)) at (Text.line (now (w .entry)) (now (t .entry))) (now (text .exit)) r ⌝ }
+    ensures short { λ r. ⌜ r ≤ at + length (now (w .entry)) + Text.fieldRoom * length (now (t .entry)) + 1 ⌝ }
 {
-    let head = word(line, 0, w);
-    ended(line, head, t)
+    let head = word(text, at, w);
+    ended(text, head, t)
 }
 
 // A number and the entries of t.
-pub fn numbered(line: &mut [u8], n: usize, t: &[u16]) -> usize
-    requires { ⌜ Text.decimalRoom + Text.fieldRoom * length (now t) + 1 ≤ length (now line) ⌝ }
-    ensures { λ r. ⌜ Text.Says (now (line .exit)) r (Text.line (Text.decimal n) (now (t .entry))) ⌝ }
+pub fn numbered(text: &mut [u8], at: usize, n: usize, t: &[u16]) -> usize
+    requires { ⌜ at + Text.decimalRoom + Text.fieldRoom * length (now t) + 1 ≤ length (now text) ⌝ }
+    ensures put { λ r. ⌜ Text.Put (now (text .entry)) at (Text.line (Text.decimal n) (now (t .entry))) (now (text .exit)) r ⌝ }
+    ensures short { λ r. ⌜ r ≤ at + Text.decimalRoom + Text.fieldRoom * length (now (t .entry)) + 1 ⌝ }
 {
-    let head = number(line, 0, n);
-    ended(line, head, t)
+    let head = number(text, at, n);
+    ended(text, head, t)
 }
 
 // A word and one number of any size.
-pub fn counted(line: &mut [u8], w: &[u8], n: usize) -> usize
-    requires { ⌜ length (now w) + 1 + Text.decimalRoom + 1 ≤ length (now line) ⌝ }
-    ensures { λ r. ⌜ Text.Says (now (line .exit)) r (Text.line (now (w .entry)) (n ∷ [])) ⌝ }
+pub fn counted(text: &mut [u8], at: usize, w: &[u8], n: usize) -> usize
+    requires { ⌜ at + length (now w) + 1 + Text.decimalRoom + 1 ≤ length (now text) ⌝ }
+    ensures put { λ r. ⌜ Text.Put (now (text .entry)) at (Text.line (now (w .entry)) (n ∷ [])) (now (text .exit)) r ⌝ }
+    ensures short { λ r. ⌜ r ≤ at + length (now (w .entry)) + 1 + Text.decimalRoom + 1 ⌝ }
 {
-    let named = word(line, 0, w);
-    let told = field(line, named, n);
-    word(line, told, b"\n")
-}
-
-// Writes the line that ends at `end` to standard output, in one call.
-pub fn print(line: &[u8], end: usize)
-    requires { ⌜ end ≤ length (now line) ⌝ }
-{
-    io::write_all(1, &line[0..end]);
+    let named = word(text, at, w);
+    let told = field(text, named, n);
+    word(text, told, b"\n")
 }

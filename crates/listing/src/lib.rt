@@ -1,4 +1,5 @@
-// Floor 4: prints what every call answers on a short log, a line a column or an answer.
+// Floor 4: writes what every call answers on a short log, a line a column or an answer. Each function answers whether all that it had to say was written;
+// where it was not, nothing more is said.
 ghost use Prim.Native.Nat.{_≤_};
 ghost use lib.ListN.{length};
 
@@ -9,12 +10,16 @@ const LINE: usize = 256;
 
 // ---- lines
 
-pub fn say(word: &[u8], t: &[u16])
+pub fn write(text: &[u8]) -> bool {
+    output::write(1, 2, text)
+}
+
+fn say(word: &[u8], t: &[u16]) -> bool
     requires { ⌜ (length (now word) ≤ 32) × (length (now t) ≤ 32) ⌝ }
 {
     let mut line = [0u8; LINE];
-    let end = lines::line(&mut line, word, t);
-    lines::print(&line, end);
+    let end = lines::line(&mut line, 0, word, t);
+    write(&line[0..end])
 }
 
 // The first n entries of t, where it has them and a line holds them.
@@ -29,16 +34,16 @@ fn first(t: &[u16], n: usize) -> &[u16]
     &t[0..0]
 }
 
-fn say_first(word: &[u8], t: &[u16], n: usize)
+fn say_first(word: &[u8], t: &[u16], n: usize) -> bool
     requires { ⌜ length (now word) ≤ 32 ⌝ }
 {
-    say(word, first(t, n));
+    say(word, first(t, n))
 }
 
-fn say_total(n: u32) {
+fn say_total(n: u32) -> bool {
     let mut line = [0u8; LINE];
-    let end = lines::counted(&mut line, b"total", n as usize);
-    lines::print(&line, end);
+    let end = lines::counted(&mut line, 0, b"total", n as usize);
+    write(&line[0..end])
 }
 
 // The first n rows of the five columns.
@@ -49,17 +54,17 @@ fn say_columns(
     cover: &[u16],
     best: &[u16],
     count: &[u16],
-) {
-    say_first(b"border", border, n);
-    say_first(b"prefix", prefix, n);
-    say_first(b"cover", cover, n);
-    say_first(b"best", best, n);
-    say_first(b"count", count, n);
+) -> bool {
+    say_first(b"border", border, n)
+        && say_first(b"prefix", prefix, n)
+        && say_first(b"cover", cover, n)
+        && say_first(b"best", best, n)
+        && say_first(b"count", count, n)
 }
 
 // ---- tables
 
-pub fn tables(x: &[u8]) {
+pub fn tables(x: &[u8]) -> bool {
     let mut border = [0u16; ROWS];
     let mut prefix = [0u16; ROWS];
     let mut cover = [0u16; ROWS];
@@ -69,12 +74,11 @@ pub fn tables(x: &[u8]) {
     finder::prefix_table(x, &mut prefix);
     finder::cover_table(x, &mut cover);
     let w = finder::enhanced_table(x, &mut best, &mut count);
-    say_columns(x.len(), &border, &prefix, &cover, &best, &count);
-    say_total(w.total);
+    say_columns(x.len(), &border, &prefix, &cover, &best, &count) && say_total(w.total)
 }
 
 // A window of x, with all rows of tables that held 77 everywhere before.
-pub fn window(x: &[u8], a: u16, m: u16) {
+pub fn window(x: &[u8], a: u16, m: u16) -> bool {
     let mut border = [77u16; 12];
     let mut prefix = [77u16; 12];
     let mut cover = [77u16; 12];
@@ -90,20 +94,20 @@ pub fn window(x: &[u8], a: u16, m: u16) {
         &mut best,
         &mut count,
     );
-    say(b"window", &[a, m]);
-    say(b"number", &[w.number as u16]);
-    say_columns(12, &border, &prefix, &cover, &best, &count);
-    say_total(w.total);
+    say(b"window", &[a, m])
+        && say(b"number", &[w.number as u16])
+        && say_columns(12, &border, &prefix, &cover, &best, &count)
+        && say_total(w.total)
 }
 
 // ---- answers
 
-fn normal(x: &[u8]) {
+fn normal(x: &[u8]) -> bool {
     let f = finder::normal_form(x, x.len());
-    say(b"normal", &[f.k1, f.k2, f.k]);
+    say(b"normal", &[f.k1, f.k2, f.k])
 }
 
-fn breakdown(x: &[u8]) {
+fn breakdown(x: &[u8]) -> bool {
     let b = finder::breakdown(x);
     let parts = b.parts;
     let mut t = [0u16; words::BREAKDOWN_PLACES];
@@ -113,13 +117,13 @@ fn breakdown(x: &[u8]) {
         t[d] = p.len;
         d += 1;
     }
-    say_first(b"breakdown", &t, words::wide(b.used));
+    say_first(b"breakdown", &t, words::wide(b.used))
 }
 
-fn covers(x: &[u8]) {
+fn covers(x: &[u8]) -> bool {
     let mut t = [0u16; ROWS];
     let l = finder::cover_list(x, &mut t);
-    say_first(b"covers", &t, words::wide(l.used));
+    say_first(b"covers", &t, words::wide(l.used))
 }
 
 // A cover test as a number: a refused one is ten and its number.
@@ -132,7 +136,7 @@ fn told(answer: words::CoverTest) -> u16 {
 }
 
 // The cover tests of the whole log, for q from 0 to one too many.
-fn tests(x: &[u8])
+fn tests(x: &[u8]) -> bool
     requires { ⌜ length (now x) ≤ 28 ⌝ }
 {
     let mut t = [0u16; ROWS];
@@ -141,34 +145,25 @@ fn tests(x: &[u8])
         t[q] = told(finder::cover_test(x, x.len(), q));
         q += 1;
     }
-    say_first(b"tests", &t, x.len() + 2);
+    say_first(b"tests", &t, x.len() + 2)
 }
 
-fn weighed(x: &[u8]) {
+fn weighed(x: &[u8]) -> bool {
     let w = finder::weighed_list(x, x.len());
     let lens = w.lens;
-    say_first(b"weighed", &lens, words::wide(w.used));
-    say(b"limit", &[w.limit]);
+    say_first(b"weighed", &lens, words::wide(w.used)) && say(b"limit", &[w.limit])
 }
 
-fn pattern(x: &[u8]) {
+fn pattern(x: &[u8]) -> bool {
     let no = finder::best_pattern_number(x);
     if no != 0 {
-        say(b"pattern refused", &[no as u16]);
-        return;
+        return say(b"pattern refused", &[no as u16]);
     }
-    io::write_all(1, b"pattern ");
-    io::write_all(1, finder::best_pattern(x));
-    io::write_all(1, b"\n");
+    write(b"pattern ") && write(finder::best_pattern(x)) && write(b"\n")
 }
 
-pub fn answers(x: &[u8])
+pub fn answers(x: &[u8]) -> bool
     requires { ⌜ length (now x) ≤ 28 ⌝ }
 {
-    normal(x);
-    breakdown(x);
-    covers(x);
-    tests(x);
-    weighed(x);
-    pattern(x);
+    normal(x) && breakdown(x) && covers(x) && tests(x) && weighed(x) && pattern(x)
 }

@@ -1,24 +1,34 @@
-// Prints the report on each file that an argument names, after the file's name.
+// Writes the report on each file that an argument names, after the file's name.
 
-fn report_on(k: usize) {
+fn write(text: &[u8]) -> bool {
+    output::write(1, 2, text)
+}
+
+// Whether all of it was written.
+fn report_on(k: usize) -> bool {
     let mut path = io::buffer();
     let n = os::arg(k, &mut path);
-    io::write_all(1, &path[..n]);
-    io::write_all(1, b"\n");
-    let fd = os::open_read(&path[..n]);
+    write(&path[..n]) && write(b"\n") && report_of(&path[..n])
+}
+
+fn report_of(path: &[u8]) -> bool {
+    let fd = os::open_read(path);
     if fd < 0 {
-        io::write_all(1, b"missing\n");
-        return;
+        return write(b"missing\n");
     }
-    reporting::report(fd);
+    let whole = reporting::report(fd);
     libc::close(fd);
+    whole
 }
 
 fn main() {
     let most = os::arg_count();
     let mut k = 1;
     while k < most {
-        report_on(k);
-        k += 1;
+        if report_on(k) {
+            k += 1;
+        } else {
+            return;
+        }
     }
 }

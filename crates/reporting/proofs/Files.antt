@@ -1,4 +1,4 @@
--- The symbols of an accepted file are an accepted log. Assumes nothing.
+-- The two ways of a file's text: the symbols of an accepted file are an accepted log. Assumes nothing.
 use mathlib.Core.Bool.{not}
 use mathlib.Core.Path.{_≡_, sym, ap, _∙_}
 use mathlib.Core.List.{List, []}
@@ -9,7 +9,10 @@ use lib.ListN.{length, getD, drop, length-drop}
 use borrow.Author.Tests.{ltb-false, eqb-false, not-false, eqb-true}
 use Rattle.words.specs.Refusals.{longest}
 use Rattle.words.specs.PlantFile as F
-use Rattle.words.proofs.Refusals.{Judged, accepted-yes, first-zero}
+use Rattle.words.proofs.Refusals.{Judged, accepted-yes, answer-yes, answer-no, first-zero}
+use Rattle.lines.specs.Text.{Says}
+use Rattle.facts.specs.Report.{refusedText}
+use Rattle.reporting.specs.Texts.{fileText}
 
 file-judged : (f : List ℕ) → F.fileNo f ≡ 0 → Judged (length (F.symbols f))
 unfolding F.fileNo F.symbols
@@ -26,6 +29,16 @@ file-judged f z =
       most = omega (arith, ltb-false longest (F.fieldOf f) (d .0));
     }
 
--- `report_on` and `rows_of`: the symbols of an accepted file
-pub file-lent : (f : List ℕ) {k : ℕ} {x : List ℕ} → k ≡ F.fileNo f → k ≡ 0 → x ≡ F.symbols f → Judged (length x)
-file-lent f e z d = rw d (file-judged f (sym e ∙ z))
+-- `report_text` and `rows_text`: the number k of a file, and its symbols x where it is accepted
+module _ (f : List ℕ) {k : ℕ} (e : k ≡ F.fileNo f) where
+  pub file-lent : {x : List ℕ} → k ≡ 0 → x ≡ F.symbols f → Judged (length x)
+  file-lent z d = rw d (file-judged f (sym e ∙ z))
+
+  module _ (text : List ℕ → List ℕ) {l : List ℕ} {r : ℕ} where
+    pub file-refused : (k ≡ 0 → ⊥) → Says l r (refusedText k) → Says l r (fileText text f)
+    unfolding fileText
+    file-refused nz s = rw (answer-no (F.fileNo f) (text (F.symbols f)) refusedText (λ z. nz (e ∙ z))) (rw e at s)
+
+    pub file-accepted : {x : List ℕ} → k ≡ 0 → x ≡ F.symbols f → Says l r (text x) → Says l r (fileText text f)
+    unfolding fileText
+    file-accepted z d s = rw (answer-yes (F.fileNo f) (text (F.symbols f)) refusedText (sym e ∙ z)) (rw d at s)

@@ -1,1 +1,2 @@
 mod Files
+mod Rowing

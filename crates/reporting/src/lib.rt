@@ -1,56 +1,53 @@
-// Floor 4: the bodies of the programs `report` and `rows`. A file's way: bytes, number, symbols, answers, lines.
+// Floor 4: the bodies of the programs `report` and `rows`. A file's way: bytes, number, symbols, answers, text; the text is written once.
 mod table;
 
-ghost use mathlib.Core.Path.{_≡_};
 ghost use Prim.Native.Nat.{_≤_};
 ghost use lib.ListN.{length};
-ghost use Rattle.words.specs.PlantFile as PlantFile;
-ghost use Rattle.facts.specs.Report.{lineRoom};
+ghost use Rattle.lines.specs.Text.{Says};
+ghost use Rattle.facts.specs.Report.{reportRoom, reportText};
+ghost use Rattle.reporting.specs.Texts.{fileText, rowsRoom, rowsText};
 
 // One byte more than the longest file has: a longer input fills it, and is a file of a wrong size.
 const FILE_ROOM: usize = 4 + words::LONGEST;
 
-// Reads a file and prints the report on it.
-pub fn report(fd: i32) {
-    let mut file = [0u8; FILE_ROOM];
-    let mut line = [0u8; facts::LINE];
-    let n = io::read_full(fd, &mut file);
-    report_on(&file[..n], &mut line);
-}
-
-// Reads a file and prints every row of its tables.
-pub fn rows(fd: i32) {
-    let mut file = [0u8; FILE_ROOM];
-    let mut line = [0u8; facts::LINE];
-    let n = io::read_full(fd, &mut file);
-    rows_of(&file[..n], &mut line);
-}
-
-fn report_on(f: &[u8], line: &mut [u8])
-    requires { ⌜ lineRoom ≤ length (now line) ⌝ }
-{
-    if judged(f, line) == 0 {
-        facts::print(logfile::symbols(f), line);
-    }
-}
-
-fn rows_of(f: &[u8], line: &mut [u8])
-    requires { ⌜ lineRoom ≤ length (now line) ⌝ }
-{
-    if judged(f, line) == 0 {
-        table::print(logfile::symbols(f), line);
-    }
-}
-
-// The file's number. A refused file's only line is printed here.
-fn judged(f: &[u8], line: &mut [u8]) -> u8
-    requires { ⌜ lineRoom ≤ length (now line) ⌝ }
-    ensures { λ r. ⌜ r ≡ PlantFile.fileNo (now (f .entry)) ⌝ }
+// The text of the report on a file.
+pub fn report_text(f: &[u8], text: &mut [u8]) -> usize
+    requires { ⌜ reportRoom ≤ length (now text) ⌝ }
+    ensures { λ r. ⌜ Says (now (text .exit)) r (fileText reportText (now (f .entry))) ⌝ }
 {
     let no = logfile::number(f);
     if no != 0 {
-        let end = facts::refused(no, line);
-        lines::print(line, end);
+        return facts::refused(no, text);
     }
-    no
+    facts::report(logfile::symbols(f), text)
+}
+
+// The text of the rows of a file.
+pub fn rows_text(f: &[u8], text: &mut [u8]) -> usize
+    requires { ⌜ rowsRoom ≤ length (now text) ⌝ }
+    ensures { λ r. ⌜ Says (now (text .exit)) r (fileText rowsText (now (f .entry))) ⌝ }
+{
+    let no = logfile::number(f);
+    if no != 0 {
+        return facts::refused(no, text);
+    }
+    table::put(logfile::symbols(f), text)
+}
+
+// Reads a file and writes the report on it. Whether it was written whole.
+pub fn report(fd: i32) -> bool {
+    let mut file = [0u8; FILE_ROOM];
+    let mut text = [0u8; facts::TEXT];
+    let n = io::read_full(fd, &mut file);
+    let end = report_text(&file[..n], &mut text);
+    output::write(1, 2, &text[0..end])
+}
+
+// Reads a file and writes every row of its tables. Whether they were written whole.
+pub fn rows(fd: i32) -> bool {
+    let mut file = [0u8; FILE_ROOM];
+    let mut text = [0u8; table::TEXT];
+    let n = io::read_full(fd, &mut file);
+    let end = rows_text(&file[..n], &mut text);
+    output::write(1, 2, &text[0..end])
 }

@@ -1,12 +1,18 @@
-// The lines of the rows. As in the report, each function makes one line and returns where it ends.
+// The text of the rows, line behind line in a lent buffer.
+ghost use mathlib.Core.Path.{_≡_};
 ghost use mathlib.Core.List.{[], _∷_};
 ghost use Prim.Native.Nat.{_+_, _≤_};
+ghost use lib.Dec.{eqb};
 ghost use lib.ListN.{length, getD};
-ghost use Rattle.lines.specs.Text.{Says};
-ghost use Rattle.facts.specs.Report.{lineRoom, Lent};
-ghost use Rattle.reporting.specs.Rows as Rows;
+ghost use Rattle.words.specs.Words as Words;
+ghost use Rattle.words.proofs.Refusals.{Judged};
+ghost use Rattle.lines.specs.Text.{decimal, line, Put, Says};
+ghost use Rattle.reporting.specs.Texts as Texts;
 
-// The row r, from 0.
+// The room of the whole text, one line a reading and one for the total (`rowsRoom` of specs/).
+pub const TEXT: usize = (lines::DECIMAL + lines::FIELD * 5 + 1) * (words::LONGEST + 1);
+
+// Puts the row r, from 0.
 fn row(
     r: usize,
     border: &[u16],
@@ -14,66 +20,61 @@ fn row(
     cover: &[u16],
     best: &[u16],
     count: &[u16],
-    line: &mut [u8],
+    text: &mut [u8],
+    at: usize,
 ) -> usize
-    requires { ⌜ Rows.Tables (r + 1) (now border) (now prefix) (now cover) (now best) (now count) (now line) ⌝ }
-    ensures { λ e. ⌜ Says (now (line .exit)) e (Rows.rowLine (r + 1) (getD (now (border .entry)) r 0 ∷ getD (now (prefix .entry)) r 0 ∷ getD (now (cover .entry)) r 0 ∷ getD (now (best .entry)) r 0 ∷ getD (now (count .entry)) r 0 ∷ [])) ⌝ }
+    requires { ⌜ Texts.Row r (now border) (now prefix) (now cover) (now best) (now count) (now text) at ⌝ }
+    ensures put { λ e. ⌜ Put (now (text .entry)) at (line (decimal (r + 1)) (getD (now (border .entry)) r 0 ∷ getD (now (prefix .entry)) r 0 ∷ getD (now (cover .entry)) r 0 ∷ getD (now (best .entry)) r 0 ∷ getD (now (count .entry)) r 0 ∷ [])) (now (text .exit)) e ⌝ }
+    ensures short { λ e. ⌜ e ≤ at + Texts.rowRoom ⌝ }
 {
     lines::numbered(
-        line,
+        text,
+        at,
         r + 1,
         &[border[r], prefix[r], cover[r], best[r], count[r]],
     )
 }
 
-fn total(n: u32, line: &mut [u8]) -> usize
-    requires { ⌜ lineRoom ≤ length (now line) ⌝ }
-    ensures { λ r. ⌜ Says (now (line .exit)) r (Rows.totalLine n) ⌝ }
-{
-    lines::counted(line, b"total", n as usize)
-}
-
-// Prints the first n rows.
-fn print_rows(
-    n: usize,
+// Puts every row, and behind them the weighed total.
+fn rows(
+    x: &[u8],
     border: &[u16],
     prefix: &[u16],
     cover: &[u16],
     best: &[u16],
     count: &[u16],
-    line: &mut [u8],
-)
-    requires { ⌜ Rows.Tables n (now border) (now prefix) (now cover) (now best) (now count) (now line) ⌝ }
+    total: u32,
+    text: &mut [u8],
+) -> usize
+    requires { ⌜ Texts.Columns (now x) (now border) (now prefix) (now cover) (now best) (now count) (now text) × (total ≡ Words.total eqb (now x)) ⌝ }
+    ensures { λ e. ⌜ Says (now (text .exit)) e (Texts.rowsText (now (x .entry))) ⌝ }
 {
+    let mut end = 0;
     let mut r = 0;
-    while r < n {
-        let end = row(r, border, prefix, cover, best, count, line);
-        lines::print(line, end);
+    while r < x.len() {
+        end = row(r, border, prefix, cover, best, count, text, end);
         r += 1;
     }
+    lines::counted(text, end, b"total", total as usize)
 }
 
-// Prints every row of the tables of an accepted log, and the weighed total.
-pub fn print(x: &[u8], line: &mut [u8])
-    requires { ⌜ Lent (now x) (now line) ⌝ }
+// Puts the whole text of an accepted log.
+pub fn put(x: &[u8], text: &mut [u8]) -> usize
+    requires { ⌜ Judged (length (now x)) × (Texts.rowsRoom ≤ length (now text)) ⌝ }
+    ensures { λ e. ⌜ Says (now (text .exit)) e (Texts.rowsText (now (x .entry))) ⌝ }
 {
     let mut border = [0u16; words::LONGEST];
     let mut prefix = [0u16; words::LONGEST];
     let mut cover = [0u16; words::LONGEST];
     let mut best = [0u16; words::LONGEST];
     let mut count = [0u16; words::LONGEST];
-    let n = x.len();
-    let w = finder::window(
+    let total = judged::columns(
         x,
-        0,
-        n,
         &mut border,
         &mut prefix,
         &mut cover,
         &mut best,
         &mut count,
     );
-    print_rows(n, &border, &prefix, &cover, &best, &count, line);
-    let end = total(w.total, line);
-    lines::print(line, end);
+    rows(x, &border, &prefix, &cover, &best, &count, total, text)
 }

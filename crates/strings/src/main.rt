@@ -1,28 +1,37 @@
-// Prints what every call answers on the strings with known results, P1 to P8; then the windows of P6.
+// Writes what every call answers on the strings with known results, P1 to P8; then the windows of P6.
 ghost use Prim.Native.Nat.{_≤_};
 ghost use lib.ListN.{length};
 
-fn string(name: &[u8], x: &[u8])
+fn string(name: &[u8], x: &[u8]) -> bool
     requires { ⌜ length (now x) ≤ 28 ⌝ }
 {
-    io::write_all(1, name);
-    io::write_all(1, b" ");
-    io::write_all(1, x);
-    io::write_all(1, b"\n");
-    listing::tables(x);
-    listing::answers(x);
+    listing::write(name)
+        && listing::write(b" ")
+        && listing::write(x)
+        && listing::write(b"\n")
+        && listing::tables(x)
+        && listing::answers(x)
+}
+
+fn strings() -> bool {
+    string(b"P1", b"a")
+        && string(b"P2", b"aa")
+        && string(b"P3", b"ab")
+        && string(b"P4", b"aaaa")
+        && string(b"P5", b"abaababab")
+        && string(b"P6", b"ababaababa")
+        && string(b"P7", b"abaababaababa")
+        && string(b"P8", b"ababaabaabababaababaabaababa")
+}
+
+fn windows() -> bool {
+    listing::window(b"ababaababa", 5, 5)
+        && listing::window(b"ababaababa", 5, 6)
+        && listing::window(b"ababaababa", 10, 0)
 }
 
 fn main() {
-    string(b"P1", b"a");
-    string(b"P2", b"aa");
-    string(b"P3", b"ab");
-    string(b"P4", b"aaaa");
-    string(b"P5", b"abaababab");
-    string(b"P6", b"ababaababa");
-    string(b"P7", b"abaababaababa");
-    string(b"P8", b"ababaabaabababaababaabaababa");
-    listing::window(b"ababaababa", 5, 5);
-    listing::window(b"ababaababa", 5, 6);
-    listing::window(b"ababaababa", 10, 0);
+    if strings() {
+        windows();
+    }
 }

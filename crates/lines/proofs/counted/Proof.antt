@@ -1,6 +1,6 @@
 -- `lines::counted` meets its contract. Assumes nothing.
 use borrow.Author.Needs.{needs}
-use Rattle.lines.proofs.Texts.{decimal-fits, counted-says}
+use Rattle.lines.proofs.Texts.{decimal-fits, counted-put}
 use Rattle.lines.proofs.counted.Statement.{statement}
 use Rattle.lines.proofs.counted.Tie as tie
 
@@ -13,4 +13,4 @@ counted-spec =
     (λ c. search needs)
     (λ c κs. search needs)
     (λ c. search needs)
-    (λ c. record { within = search needs; says = search counted-says }))
+    (λ c. (search counted-put, search needs)))

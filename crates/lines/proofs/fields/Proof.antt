@@ -7,10 +7,10 @@ use Rattle.lines.proofs.fields.Statement.{statement}
 use Rattle.lines.proofs.fields.Tie as tie
 
 abbrev Inv-loop : tie.InvT-loop
-Inv-loop line₀ at t end₀ i₀ line end i = Listed t line₀ at line end i
+Inv-loop text₀ at t end₀ i₀ text end i = Listed t text₀ at text end i
 
 abbrev μ-loop : tie.MeasureT-loop
-μ-loop line₀ at t end₀ i₀ line end i = length t - i
+μ-loop text₀ at t end₀ i₀ text end i = length t - i
 
 pub fields-spec : {M : Type 1} → statement M
 fields-spec =

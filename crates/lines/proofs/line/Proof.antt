@@ -1,6 +1,6 @@
 -- `lines::line` meets its contract. Assumes nothing.
 use borrow.Author.Needs.{needs}
-use Rattle.lines.proofs.Texts.{line-says}
+use Rattle.lines.proofs.Texts.{line-put}
 use Rattle.lines.proofs.line.Statement.{statement}
 use Rattle.lines.proofs.line.Tie as tie
 
@@ -11,4 +11,4 @@ line-spec =
     (λ c κs. search needs)
     (λ c κs. search needs)
     (λ c. search needs)
-    (λ c. record { within = search needs; says = search line-says }))
+    (λ c. (search line-put, search needs)))

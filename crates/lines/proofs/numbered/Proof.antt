@@ -1,6 +1,6 @@
 -- `lines::numbered` meets its contract. Assumes nothing.
 use borrow.Author.Needs.{needs}
-use Rattle.lines.proofs.Texts.{decimal-fits, line-says}
+use Rattle.lines.proofs.Texts.{decimal-fits, line-put}
 use Rattle.lines.proofs.numbered.Statement.{statement}
 use Rattle.lines.proofs.numbered.Tie as tie
 
@@ -11,4 +11,4 @@ numbered-spec =
     (λ c κs. decimal-fits _ _ _ (search needs))
     (λ c κs. search needs)
     (λ c. search needs)
-    (λ c. record { within = search needs; says = search line-says }))
+    (λ c. (search line-put, search needs)))

@@ -7,10 +7,10 @@ use Rattle.lines.proofs.word.Statement.{statement}
 use Rattle.lines.proofs.word.Tie as tie
 
 abbrev Inv-loop : tie.InvT-loop
-Inv-loop line₀ at w i₀ line i = Copied w line₀ at line i
+Inv-loop text₀ at w i₀ text i = Copied w text₀ at text i
 
 abbrev μ-loop : tie.MeasureT-loop
-μ-loop line₀ at w i₀ line i = length w - i
+μ-loop text₀ at w i₀ text i = length w - i
 
 pub word-spec : {M : Type 1} → statement M
 word-spec =

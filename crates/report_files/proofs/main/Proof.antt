@@ -1,6 +1,6 @@
 -- `report_files::main` meets its contract. The measure is the number of arguments left. Assumes nothing.
-use Prim.Native.Nat.{_-_}
 use borrow.Author.Needs.{needs}
+use Prim.Native.Nat.{_-_}
 use Rattle.report_files.proofs.main.Statement.{statement}
 use Rattle.report_files.proofs.main.Tie as tie
 
@@ -19,6 +19,7 @@ main-spec =
     (λ c κs. search needs)
     (λ c. search needs)
     (λ c κs. search needs)
+    (λ c. search needs)
     (λ c. search needs)
     (λ c. search needs)
     (λ c. search needs)

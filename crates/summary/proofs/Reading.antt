@@ -1,0 +1,22 @@
+-- What the tables say of the whole log is its summary: their last rows, and the lists. Assumes nothing.
+use mathlib.Core.Path.{_≡_}
+use mathlib.Core.List.{List}
+use Prim.Native.Nat.{ℕ, _+_, _-_, _<_}
+use native.Mathlib.Omega.{arith}
+use lib.Dec.{eqb}
+use lib.ListN.{length, getD}
+use Rattle.words.specs.declared.Part.{Part}
+use Rattle.words.specs.declared.Weighed.{Weighed}
+use Rattle.words.specs.Words as Words
+use Rattle.words.specs.Tables.{bestRow, countRow}
+use Rattle.words.specs.Answers.{listed}
+use Rattle.words.proofs.Tables.{Holds}
+use Rattle.summary.specs.Whole.{summaryOf}
+
+pub summary-is : {x best count : List ℕ} {p : Part} {k : ℕ} {w : Weighed} → 0 < length x → Holds bestRow x best → Holds countRow x count
+    → p ≡ Words.normal eqb x (length x) → k ≡ length (Words.coverList eqb x) → w ≡ listed 0 (Words.weighed eqb x (length x)) (Words.limit (length x))
+    → record { normal = p; best = getD best (length x - 1) 0; count = getD count (length x - 1) 0; covers = k; weighed = w } ≡ summaryOf x
+unfolding summaryOf
+summary-is {x} some b c p k w =
+    let last : length x - 1 + 1 ≡ length x = omega arith in
+    rw (p, k, w, b .rows (length x - 1) (omega arith), c .rows (length x - 1) (omega arith), last)
