@@ -3,11 +3,7 @@
 ghost use Prim.Native.Nat.{_≤_};
 
 fn print_byte(b: u8) -> bool {
-    if io::write_all(1, b" ") {
-        io::print_decimal(1, b as u64)
-    } else {
-        false
-    }
+    io::write_all(1, b" ") && io::print_decimal(1, b as u64)
 }
 
 fn print_bytes(s: &[u8]) -> bool {
@@ -28,14 +24,10 @@ fn most(n: usize) -> usize
 }
 
 fn print_file(file: &[u8]) -> bool {
-    if !io::print_decimal(1, file.len() as u64) {
-        return false;
-    }
-    if !io::write_all(1, b" bytes:") {
-        return false;
-    }
     let n = most(file.len());
-    print_bytes(&file[0..n])
+    io::print_decimal(1, file.len() as u64)
+        && io::write_all(1, b" bytes:")
+        && print_bytes(&file[0..n])
 }
 
 fn make(from: i32) -> bool {
@@ -48,16 +40,8 @@ fn make(from: i32) -> bool {
     print_file(&file[..n])
 }
 
-fn one(k: usize) -> bool {
-    let mut path = io::buffer();
-    let n = os::arg(k, &mut path);
-    if !io::write_all(1, &path[..n]) {
-        return false;
-    }
-    if !io::write_all(1, b": ") {
-        return false;
-    }
-    let from = os::open_read(&path[..n]);
+fn one(path: &[u8]) -> bool {
+    let from = os::open_read(path);
     if from < 0 {
         return io::write_all(1, b"missing\n");
     }
@@ -66,11 +50,17 @@ fn one(k: usize) -> bool {
     all
 }
 
+fn named(k: usize) -> bool {
+    let mut path = io::buffer();
+    let n = os::arg(k, &mut path);
+    io::write_all(1, &path[..n]) && io::write_all(1, b": ") && one(&path[..n])
+}
+
 fn main() {
     let count = os::arg_count();
     let mut k = 1;
     while k < count {
-        if !one(k) {
+        if !named(k) {
             output::fail(2);
             return;
         }

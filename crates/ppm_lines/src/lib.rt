@@ -78,19 +78,11 @@ fn read_text(from: i32, file: &mut [u8]) -> Reading
 
 // Says what is wrong with a line, and answers whether all of it was written.
 fn say_line(to: i32, number: u64, what: &[u8]) -> bool {
-    if !io::write_all(to, b"line ") {
-        return false;
-    }
-    if !io::print_decimal(to, number) {
-        return false;
-    }
-    if !io::write_all(to, b": ") {
-        return false;
-    }
-    if !io::write_all(to, what) {
-        return false;
-    }
-    io::write_all(to, b"\n")
+    io::write_all(to, b"line ")
+        && io::print_decimal(to, number)
+        && io::write_all(to, b": ")
+        && io::write_all(to, what)
+        && io::write_all(to, b"\n")
 }
 
 // Says what is wrong with a text, and answers whether all of it was written.
