@@ -6,6 +6,11 @@ pub fn write(to: i32, say: i32, text: &[u8]) -> bool {
     if io::write_all(to, text) {
         return true;
     }
+    fail(say)
+}
+
+// Says that the output cannot be written.
+pub fn fail(say: i32) -> bool {
     io::write_all(say, b"the output cannot be written\n");
     false
 }
