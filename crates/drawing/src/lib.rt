@@ -40,7 +40,7 @@ pub fn refuse(out: &mut [u8], number: u8) -> Pen {
         b"<svg xmlns='http://www.w3.org/2000/svg' viewBox='0 0 400 100' width='400' height='100' role='img'>
 <title>Log of a CO&#8322; head</title>
 <rect width='400' height='100' fill='#fff'/>
-<text x='40' y='62' font-family='Helvetica,Arial,sans-serif' font-size='30' font-weight='bold' fill='#b00020'>refused ",
+<text x='40' y='62' style='font-family:Helvetica,Arial,sans-serif;font-size:30px;font-weight:bold;fill:#b00020'>refused ",
         number as usize,
     );
     say(out, p, b"</text>\n</svg>\n")

@@ -2,7 +2,6 @@
 use pen::Pen;
 use pen::put;
 use pen::say;
-use words::wide;
 
 // The numbers of the report, but for its lists.
 pub struct Numbers {
@@ -105,61 +104,81 @@ fn one(out: &mut [u8], pen: Pen, y: usize, note: &[u8], name: &[u8], n: usize) -
     end_row(out, p)
 }
 
-fn normal(out: &mut [u8], pen: Pen, r: Numbers) -> Pen {
-    let p = row(
+fn list(out: &mut [u8], pen: Pen, t: &[u16]) -> Pen {
+    let mut p = pen;
+    let mut i = 0;
+    while i < t.len() {
+        p = put(out, p, b" ", words::wide(t[i]));
+        i += 1;
+    }
+    p
+}
+
+// The first numbers of a list, at most `most` of them, and how many more there are.
+fn list_some(out: &mut [u8], pen: Pen, t: &[u16], most: usize) -> Pen {
+    if t.len() <= most {
+        return list(out, pen, t);
+    }
+    let p = list(out, pen, &t[0..most]);
+    let p = put(out, p, b" &#8230; ", t.len() - most);
+    say(out, p, b" more")
+}
+
+// A line with the first numbers of a list, at most `most` of them.
+fn some(
+    out: &mut [u8],
+    pen: Pen,
+    y: usize,
+    note: &[u8],
+    name: &[u8],
+    t: &[u16],
+    most: usize,
+) -> Pen {
+    let p = row(out, pen, y, note, name);
+    let p = list_some(out, p, t, most);
+    end_row(out, p)
+}
+
+// A line has room for six lengths of four digits; and for every weighed list, since each of its lengths is less than half of the one before.
+fn patterns(out: &mut [u8], pen: Pen, cover_lens: &[u16], weighed_lens: &[u16], r: Numbers) -> Pen {
+    let normal = [r.k1, r.k2, r.k];
+    let best = [r.best, r.count];
+    let p = some(
         out,
         pen,
         712,
         b"length that repeats, readings left over, times",
         b"normal",
+        &normal,
+        3,
     );
-    let p = strokes::put_two(out, p, b" ", wide(r.k1), b" ", wide(r.k2));
-    let p = put(out, p, b" ", wide(r.k));
-    end_row(out, p)
-}
-
-fn best(out: &mut [u8], pen: Pen, r: Numbers) -> Pen {
-    let p = row(
+    let p = some(
         out,
-        pen,
-        768,
-        b"length of the best pattern, readings it covers",
-        b"best",
-    );
-    let p = strokes::put_two(out, p, b" ", wide(r.best), b" ", wide(r.count));
-    end_row(out, p)
-}
-
-fn covers(out: &mut [u8], pen: Pen, t: &[u16]) -> Pen {
-    let p = row(
-        out,
-        pen,
+        p,
         740,
         b"lengths of patterns that cover the whole log",
         b"covers",
+        cover_lens,
+        6,
     );
-    let p = strokes::list_some(out, p, t);
-    end_row(out, p)
-}
-
-// At most twelve lengths, each less than half of the one before: they fit in a line.
-fn weighed(out: &mut [u8], pen: Pen, t: &[u16]) -> Pen {
-    let p = row(
+    let p = some(
         out,
-        pen,
+        p,
+        768,
+        b"length of the best pattern, readings it covers",
+        b"best",
+        &best,
+        2,
+    );
+    some(
+        out,
+        p,
         796,
         b"lengths weighed against it, longest first",
         b"weighed",
-    );
-    let p = strokes::list(out, p, t);
-    end_row(out, p)
-}
-
-fn patterns(out: &mut [u8], pen: Pen, cover_lens: &[u16], weighed_lens: &[u16], r: Numbers) -> Pen {
-    let p = normal(out, pen, r);
-    let p = covers(out, p, cover_lens);
-    let p = best(out, p, r);
-    weighed(out, p, weighed_lens)
+        weighed_lens,
+        words::WEIGHED_PLACES,
+    )
 }
 
 pub fn report(

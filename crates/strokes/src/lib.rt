@@ -196,23 +196,3 @@ pub fn labels(out: &mut [u8], pen: Pen, n: usize) -> Pen {
     }
     p
 }
-
-pub fn list(out: &mut [u8], pen: Pen, t: &[u16]) -> Pen {
-    let mut p = pen;
-    let mut i = 0;
-    while i < t.len() {
-        p = put(out, p, b" ", words::wide(t[i]));
-        i += 1;
-    }
-    p
-}
-
-// The first six of a list, and how many more there are: as much as a line has room for.
-pub fn list_some(out: &mut [u8], pen: Pen, t: &[u16]) -> Pen {
-    if t.len() <= 6 {
-        return list(out, pen, t);
-    }
-    let p = list(out, pen, &t[0..6]);
-    let p = put(out, p, b" &#8230; ", t.len() - 6);
-    say(out, p, b" more")
-}

@@ -1,10 +1,10 @@
--- `strokes::list` meets its contract. The buffer keeps its length; the loop's measure is the entries left. Assumes nothing.
+-- `legend::list` meets its contract. The buffer keeps its length; the loop's measure is the entries left. Assumes nothing.
 use mathlib.Core.Path.{_≡_}
 use Prim.Native.Nat.{_-_}
 use borrow.Author.Needs.{needs}
 use lib.ListN.{length}
-use Rattle.strokes.proofs.list.Statement.{statement}
-use Rattle.strokes.proofs.list.Tie as tie
+use Rattle.legend.proofs.list.Statement.{statement}
+use Rattle.legend.proofs.list.Tie as tie
 
 abbrev Inv-loop : tie.InvT-loop
 Inv-loop out₀ t p₀ i₀ t6 out p i = length out ≡ length out₀
