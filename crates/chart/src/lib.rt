@@ -3,6 +3,7 @@
 // The sheet is 1200 wide and 876 high, and is to be read at half that size too. Every text has room for the widest common letters, those of DejaVu Sans.
 ghost use Prim.Native.Nat.{_≤_, _<_};
 ghost use lib.ListN.{length};
+ghost use Rattle.words.specs.Refusals.{longest};
 use pen::Pen;
 use pen::put;
 use pen::say;
@@ -87,19 +88,19 @@ fn line(out: &mut [u8], pen: Pen, x: &[u8]) -> Pen
 // What is at the ceiling, in red.
 fn stuck(out: &mut [u8], pen: Pen, x: &[u8]) -> Pen {
     let p = say(out, pen, b"<path class='stuck' d='");
-    let p = strokes::enclose_runs(out, p, x, 20, 0, 33000);
+    let p = strokes::enclose_runs(out, p, x, logfile::CEILING, 0, 33000);
     let p = say(
         out,
         p,
         b"'/>\n<path class='ceiling' d='M0 3000H100000'/>\n<path class='held' d='",
     );
-    let p = strokes::enclose_runs(out, p, x, 20, 2600, 3400);
+    let p = strokes::enclose_runs(out, p, x, logfile::CEILING, 2600, 3400);
     say(out, p, b"'/>\n")
 }
 
 // How the pattern of length q lies in the log; nothing where there is none.
 fn lanes(out: &mut [u8], pen: Pen, x: &[u8], q: usize) -> Pen
-    requires { ⌜ length (now x) ≤ 4096 ⌝ }
+    requires { ⌜ length (now x) ≤ longest ⌝ }
 {
     if q == 0 {
         return pen;
@@ -124,7 +125,7 @@ fn axis(out: &mut [u8], pen: Pen, n: usize) -> Pen {
 }
 
 pub fn draw(out: &mut [u8], x: &[u8], q: usize) -> Pen
-    requires { ⌜ (0 < length (now x)) × (length (now x) ≤ 4096) ⌝ }
+    requires { ⌜ (0 < length (now x)) × (length (now x) ≤ longest) ⌝ }
 {
     let p = sheet(out, x.len());
     let p = line(out, p, x);
