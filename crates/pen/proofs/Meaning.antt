@@ -1,21 +1,22 @@
 -- What the contracts say in words: a piece that fits stands behind the text, and one that does not changes nothing but the pen, for good. Assumes nothing.
-use mathlib.Core.Bool.{Bool, true, false, cond, _&&_}
+use mathlib.Core.Bool.{true, false, true≢false}
 use mathlib.Core.Path.{_≡_, refl, sym, ap, _∙_}
-use mathlib.Core.List.{List, [], _++_}
-use Prim.Native.Nat.{ℕ, _+_, _≤_}
+use mathlib.Core.List.{List, _++_}
+use Prim.Native.Nat.{ℕ, _+_}
 use native.Mathlib.Omega.{arith}
 use lib.Dec.{leb}
 use lib.ListN.{length, take}
-use lib.Seq.{paste, take-paste, take-length}
+use lib.Seq.{take-paste, take-length}
 use Rattle.words.proofs.Tests.{by-test}
-use Rattle.lines.specs.Text.{Put}
+use Rattle.lines.specs.Text.{decimal, Put}
+use Rattle.lines.proofs.Texts.{put-put}
 use Rattle.pen.specs.declared.Pen.{Pen}
-use Rattle.pen.specs.Pens.{takes, penAfter, outAfter}
-use Rattle.pen.proofs.Pieces.{taken-room}
+use Rattle.pen.specs.Pens.{takes, penAfter, outAfter, penAfterNumber, outAfterNumber}
+use Rattle.pen.proofs.Pieces.{taken-room, out-length}
 
 module _ (out : List ℕ) (p : Pen) (piece : List ℕ) where
   -- the pen tells which it was
-  pub fits-is : penAfter (length out) p piece .fits ≡ takes (length out) p (length piece)
+  fits-is : penAfter (length out) p piece .fits ≡ takes (length out) p (length piece)
   unfolding penAfter
   fits-is = by-test (takes (length out) p (length piece)) (λ t. rw t) (λ t. rw t)
 
@@ -39,3 +40,15 @@ module _ (out : List ℕ) (p : Pen) (piece : List ℕ) where
 pub left-for-good : (room : ℕ) (p : Pen) (piece : List ℕ) → p .fits ≡ false → penAfter room p piece .fits ≡ false
 unfolding penAfter takes
 left-for-good room p piece f = rw f (by-test (leb (p .at + length piece) room) (λ t. rw t) (λ t. rw t))
+
+-- a piece with a number, if both fit
+pub number-behind : (out : List ℕ) (p : Pen) (piece : List ℕ) (n : ℕ) → penAfterNumber (length out) p piece n .fits ≡ true
+    → Put out (p .at) (piece ++ decimal n) (outAfterNumber out p piece n) (penAfterNumber (length out) p piece n .at)
+unfolding penAfterNumber outAfterNumber
+number-behind out p piece n f =
+    let named = penAfter (length out) p piece in
+    let mid = outAfter out p piece in
+    let l : length mid ≡ length out = out-length out p piece in
+    let first : named .fits ≡ true =
+    by-test (named .fits) (λ t. t) (λ t. absurd (true≢false (sym f ∙ left-for-good (length out) named (decimal n) t))) in
+    put-put (put-behind out p piece first) (rw l at (put-behind mid named (decimal n) (rw l f)))

@@ -1,11 +1,10 @@
 -- A piece behind a text. Each premise stands as the code's tests give it. Assumes nothing.
-use mathlib.Core.Bool.{Bool, true, false, cond, _&&_}
+use mathlib.Core.Bool.{Bool, true, false}
 use mathlib.Core.Path.{_≡_, refl, sym, _∙_}
 use mathlib.Core.List.{List, []}
 use Prim.Native.Nat.{ℕ, _+_, _-_, _≤_, _<_}
 use native.Mathlib.Numerals.{add-one}
 use native.Mathlib.Omega.{arith}
-use lib.Dec.{leb}
 use lib.ListN.{length, getD, take, set}
 use lib.Seq.{paste, paste-zero, paste-suc, length-paste}
 use borrow.Author.Tests.{le-leb, lt-leb, leb-true}
@@ -99,7 +98,7 @@ module _ (p : Pen) (b : Bool) where
 
 -- ---- `put`
 
-out-length : (out : List ℕ) (p : Pen) (piece : List ℕ) → length (outAfter out p piece) ≡ length out
+pub out-length : (out : List ℕ) (p : Pen) (piece : List ℕ) → length (outAfter out p piece) ≡ length out
 unfolding outAfter
 out-length out p piece =
     by-test
