@@ -33,7 +33,14 @@ fn starts(x: &[u8], q: usize, p: usize) -> bool
     occurs(x, q, p)
 }
 
-// A reading's mark, and how far the occurrences up to it reach.
+// A reading's mark for a pattern: an occurrence starts there; elsewhere inside one; outside.
+pub const START: u8 = 2;
+
+pub const INSIDE: u8 = 1;
+
+pub const OUTSIDE: u8 = 0;
+
+// The mark, and how far the occurrences up to the reading reach.
 pub struct Marked {
     pub mark: u8,
     pub reach: usize,
@@ -45,23 +52,23 @@ fn judge(x: &[u8], q: usize, p: usize, reach: usize) -> Marked
 {
     if starts(x, q, p) {
         return Marked {
-            mark: 2,
+            mark: START,
             reach: p + q,
         };
     }
     if p < reach {
         return Marked {
-            mark: 1,
+            mark: INSIDE,
             reach: reach,
         };
     }
     Marked {
-        mark: 0,
+        mark: OUTSIDE,
         reach: reach,
     }
 }
 
-// Marks each reading for the pattern of length q: 2 where an occurrence starts, 1 elsewhere inside one, 0 outside.
+// Marks each reading for the pattern of length q.
 pub fn mark_all(x: &[u8], q: usize, marks: &mut [u8])
     requires { ⌜ length (now x) ≤ length (now marks) ⌝ }
     ensures { λ _. ⌜ now (marks .exit) ≡ written (markOf q (now (x .entry))) (length (now (x .entry))) (now (marks .entry)) ⌝ }

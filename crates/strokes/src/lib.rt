@@ -1,23 +1,26 @@
-// Floor 4: the strokes of a log's picture, written as the data of SVG paths.
+// Floor 4: the strokes of a log's picture, put into the text as the data of SVG paths.
 //
 // Places are whole numbers, in hundredths of a pixel from the upper left corner of the plot.
 // The plot is 100000 wide, one reading beside the other, and 33000 high: 1500 for each hundred ppm, up to 2200 ppm.
 // Below it lie two lanes for the occurrences of the best pattern and one for the readings that it does not cover.
 ghost use Prim.Native.Nat.{_≤_, _<_};
 ghost use lib.ListN.{length};
+use pen::Pen;
+use pen::put;
+use pen::say;
 
-pub fn say(to: i32, text: &[u8]) {
-    io::write_all(to, text);
+// Two numbers, each after a piece.
+pub fn put_two(out: &mut [u8], pen: Pen, before: &[u8], m: usize, between: &[u8], n: usize) -> Pen {
+    let p = put(out, pen, before, m);
+    put(out, p, between, n)
 }
 
-// A text, and a number after it.
-pub fn put(to: i32, text: &[u8], n: usize) {
-    io::write_all(to, text);
-    io::print_decimal(to, n as u64);
-}
-
-pub fn wide(n: u16) -> usize {
-    n as usize
+// " reading", or " readings" where n is another number than one.
+pub fn readings(out: &mut [u8], pen: Pen, n: usize) -> Pen {
+    if n == 1 {
+        return say(out, pen, b" reading");
+    }
+    say(out, pen, b" readings")
 }
 
 // Where the reading after the first k of n begins.
@@ -27,7 +30,7 @@ fn across(k: usize, n: usize) -> usize
     if n <= k {
         return 100000;
     }
-    if 4096 < k {
+    if words::LONGEST < k {
         return 100000;
     }
     k * 100000 / n
@@ -41,78 +44,95 @@ pub fn down(symbol: u8) -> usize {
     33000 - (symbol as usize) * 1500
 }
 
-// A box around the readings after the first a, up to the first e of n.
-fn enclose(to: i32, a: usize, e: usize, n: usize, top: usize, bottom: usize) {
+// A box around the readings after the first a, up to the first e of n, if there are any.
+fn enclose(
+    out: &mut [u8],
+    pen: Pen,
+    a: usize,
+    e: usize,
+    n: usize,
+    top: usize,
+    bottom: usize,
+) -> Pen {
+    if e <= a {
+        return pen;
+    }
     let left = across(a, n);
-    put(to, b"M", left);
-    put(to, b" ", top);
-    put(to, b"H", across(e, n));
-    put(to, b"V", bottom);
-    put(to, b"H", left);
-    say(to, b"z");
+    let p = put_two(out, pen, b"M", left, b" ", top);
+    let p = put_two(out, p, b"H", across(e, n), b"V", bottom);
+    let p = put(out, p, b"H", left);
+    say(out, p, b"z")
 }
 
-// A box around each run of v.
-pub fn enclose_runs(to: i32, x: &[u8], v: u8, top: usize, bottom: usize) {
-    let mut p = 0;
-    while p < x.len() {
-        p = enclose_run(to, x, v, p, top, bottom);
+// A box around each run of v. After a run comes another reading, or none.
+pub fn enclose_runs(out: &mut [u8], pen: Pen, x: &[u8], v: u8, top: usize, bottom: usize) -> Pen {
+    let mut p = pen;
+    let mut a = 0;
+    while a < x.len() {
+        let e = marks::end_of_run(x, v, a);
+        p = enclose(out, p, a, e, x.len(), top, bottom);
+        a = e + 1;
     }
-}
-
-// A box around the run of v after the first p readings, if there is one. Answers where to go on.
-fn enclose_run(to: i32, x: &[u8], v: u8, p: usize, top: usize, bottom: usize) -> usize
-    requires { ⌜ p < length (now x) ⌝ }
-    ensures { λ r. ⌜ (p < r) × (r ≤ length (now (x .entry))) ⌝ }
-{
-    let e = marks::end_of_run(x, v, p);
-    if e == p {
-        return p + 1;
-    }
-    enclose(to, p, e, x.len(), top, bottom);
-    e
+    p
 }
 
 // The step after the first k readings, if the next one differs.
-fn step(to: i32, x: &[u8], k: usize)
+fn step(out: &mut [u8], pen: Pen, x: &[u8], k: usize) -> Pen
     requires { ⌜ (0 < k) × (k < length (now x)) ⌝ }
 {
-    if x[k] != x[k - 1] {
-        put(to, b"H", across(k, x.len()));
-        put(to, b"V", down(x[k]));
+    if x[k] == x[k - 1] {
+        return pen;
     }
+    put_two(out, pen, b"H", across(k, x.len()), b"V", down(x[k]))
 }
 
 // The readings as steps.
-pub fn steps(to: i32, x: &[u8]) {
+pub fn steps(out: &mut [u8], pen: Pen, x: &[u8]) -> Pen {
+    let mut p = pen;
     let mut k = 1;
     while k < x.len() {
-        step(to, x, k);
+        p = step(out, p, x, k);
         k += 1;
     }
+    p
 }
 
 // The occurrences of the first q readings, in two lanes by turns: the best pattern has no proper cover, so no three of its occurrences share a reading.
-pub fn occurrences(to: i32, marks: &[u8], q: usize) {
+pub fn occurrences(out: &mut [u8], pen: Pen, marks: &[u8], q: usize) -> Pen {
+    let mut p = pen;
     let mut lane = 0;
-    let mut p = 0;
-    while p < marks.len() {
-        lane = occurrence(to, marks, q, p, lane);
-        p += 1;
+    let mut a = 0;
+    while a < marks.len() {
+        p = occurrence(out, p, marks, q, a, lane);
+        lane = next_lane(marks[a], lane);
+        a += 1;
     }
+    p
 }
 
-// The occurrence that starts after the first p readings, if one does. Answers the lane of the next.
-fn occurrence(to: i32, marks: &[u8], q: usize, p: usize, lane: usize) -> usize
-    requires { ⌜ p < length (now marks) ⌝ }
+// The occurrence that starts after the first a readings, if one does.
+fn occurrence(out: &mut [u8], pen: Pen, marks: &[u8], q: usize, a: usize, lane: usize) -> Pen
+    requires { ⌜ a < length (now marks) ⌝ }
 {
-    if marks[p] != 2 {
+    if marks[a] != marks::START {
+        return pen;
+    }
+    let end = std::num::wrapping_add_usize(a, q);
+    let top = 34000 + lane % 2 * 1600;
+    enclose(out, pen, a, end, marks.len(), top, top + 1400)
+}
+
+// The lane of the next occurrence, after a reading with this mark.
+fn next_lane(mark: u8, lane: usize) -> usize {
+    if mark != marks::START {
         return lane;
     }
-    let end = std::num::wrapping_add_usize(p, q);
-    let top = 34000 + lane % 2 * 1400;
-    enclose(to, p, end, marks.len(), top, top + 1200);
     1 - lane % 2
+}
+
+// The readings outside every occurrence.
+pub fn gaps(out: &mut [u8], pen: Pen, marks: &[u8]) -> Pen {
+    enclose_runs(out, pen, marks, marks::OUTSIDE, 38400, 39600)
 }
 
 // How many readings there are from one tick of the axis to the next: at most ten ticks.
@@ -147,43 +167,32 @@ fn tick(n: usize) -> usize
 }
 
 // A tick and its number under the middle of reading k of n.
-fn label(to: i32, k: usize, n: usize) {
+fn label(out: &mut [u8], pen: Pen, k: usize, n: usize) -> Pen {
     if k == 0 || n < k {
-        return;
+        return pen;
     }
     let at = (across(k - 1, n) + across(k, n)) / 2;
-    put(to, b"<path class='tick' d='M", at);
-    put(to, b" 38000v600'/><text x='", at);
-    put(to, b"' y='40400'>", k);
-    say(to, b"</text>\n");
+    let p = put_two(
+        out,
+        pen,
+        b"<path class='tick' d='M",
+        at,
+        b" 40400v700'/><text x='",
+        at,
+    );
+    let p = put(out, p, b"' y='43000'>", k);
+    say(out, p, b"</text>\n")
 }
 
-pub fn labels(to: i32, n: usize) {
+pub fn labels(out: &mut [u8], pen: Pen, n: usize) -> Pen {
     let t = tick(n);
+    let mut p = pen;
     let mut k = 0;
     let mut i: usize = 0;
     while i < 10 {
         k += t;
-        label(to, k, n);
+        p = label(out, p, k, n);
         i += 1;
     }
-}
-
-fn list(to: i32, t: &[u16]) {
-    let mut i = 0;
-    while i < t.len() {
-        put(to, b" ", wide(t[i]));
-        i += 1;
-    }
-}
-
-// The first eight of a list, and how many more there are.
-pub fn list_some(to: i32, t: &[u16]) {
-    if t.len() <= 8 {
-        list(to, t);
-        return;
-    }
-    list(to, &t[0..8]);
-    put(to, b" &#8230; and ", t.len() - 8);
-    say(to, b" more");
+    p
 }

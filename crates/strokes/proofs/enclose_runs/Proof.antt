@@ -1,4 +1,5 @@
--- `strokes::enclose_runs` meets its contract. The loop's measure is the readings left. Assumes nothing.
+-- `strokes::enclose_runs` meets its contract. The buffer keeps its length; the loop's measure is the readings left. Assumes nothing.
+use mathlib.Core.Path.{_≡_}
 use Prim.Native.Nat.{_-_}
 use borrow.Author.Needs.{needs}
 use lib.ListN.{length}
@@ -6,10 +7,10 @@ use Rattle.strokes.proofs.enclose_runs.Statement.{statement}
 use Rattle.strokes.proofs.enclose_runs.Tie as tie
 
 abbrev Inv-loop : tie.InvT-loop
-Inv-loop to x v top bottom p₀ p = Unit {0}
+Inv-loop out₀ x v top bottom p₀ a₀ out p a = length out ≡ length out₀
 
 abbrev μ-loop : tie.MeasureT-loop
-μ-loop to x v top bottom p₀ p = length x - p
+μ-loop out₀ x v top bottom p₀ a₀ out p a = length x - a
 
 pub enclose-runs-spec : {M : Type 1} → statement M
 enclose-runs-spec =
@@ -19,6 +20,9 @@ enclose-runs-spec =
     μ-loop
     (λ c. search needs)
     (λ c κs. search needs)
+    (λ c κs. search needs)
+    (λ c. search needs)
+    (λ c. search needs)
     (λ c. search needs)
     (λ c. search needs)
     (λ c. search needs))

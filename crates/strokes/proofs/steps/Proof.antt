@@ -1,4 +1,5 @@
--- `strokes::steps` meets its contract. The loop's invariant: a reading stands before k. Its measure is the readings left. Assumes nothing.
+-- `strokes::steps` meets its contract. The buffer keeps its length, and a reading stands before k; the loop's measure is the readings left. Assumes nothing.
+use mathlib.Core.Path.{_≡_}
 use Prim.Native.Nat.{_<_, _-_}
 use borrow.Author.Needs.{needs}
 use lib.ListN.{length}
@@ -6,10 +7,10 @@ use Rattle.strokes.proofs.steps.Statement.{statement}
 use Rattle.strokes.proofs.steps.Tie as tie
 
 abbrev Inv-loop : tie.InvT-loop
-Inv-loop to x k₀ k = 0 < k
+Inv-loop out₀ x p₀ k₀ out p k = (length out ≡ length out₀) × (0 < k)
 
 abbrev μ-loop : tie.MeasureT-loop
-μ-loop to x k₀ k = length x - k
+μ-loop out₀ x p₀ k₀ out p k = length x - k
 
 pub steps-spec : {M : Type 1} → statement M
 steps-spec =
@@ -19,6 +20,7 @@ steps-spec =
     μ-loop
     (λ c. search needs)
     (λ c κs. search needs)
+    (λ c. search needs)
     (λ c. search needs)
     (λ c. search needs)
     (λ c. search needs)

@@ -1,0 +1,214 @@
+// Floor 4: what a picture says in words: the band under its title, and the report below the chart.
+use pen::Pen;
+use pen::put;
+use pen::say;
+
+// The numbers of the report, but for its lists.
+pub struct Numbers {
+    pub k1: u16,
+    pub k2: u16,
+    pub k: u16,
+    pub best: u16,
+    pub count: u16,
+    pub ceiling: usize,
+    pub held: bool,
+}
+
+// ---- the band under the title: how the readings stand to the ceiling
+
+// Ends the band's first line, of n readings, and adds the second.
+fn warn(out: &mut [u8], pen: Pen, n: usize, second: &[u8]) -> Pen {
+    let p = put(out, pen, b" of ", n);
+    let p = strokes::readings(out, p, n);
+    say(out, p, second)
+}
+
+fn reached(out: &mut [u8], pen: Pen, n: usize, ceiling: usize) -> Pen {
+    let p = put(
+        out,
+        pen,
+        b"<rect x='41' y='77' width='1118' height='70' fill='#fff' stroke='#b00020' stroke-width='2'/>
+<text class='alarm red' x='60' y='108'>REACHED CEILING: ",
+        ceiling,
+    );
+    warn(
+        out,
+        p,
+        n,
+        b"</text>\n<text class='red' x='60' y='136'>There the room may have held far more than 2000 ppm.</text>\n",
+    )
+}
+
+// The last readings are in a run at the ceiling.
+fn at_ceiling(out: &mut [u8], pen: Pen, n: usize, last: usize) -> Pen {
+    let p = say(
+        out,
+        pen,
+        b"<rect x='40' y='76' width='1120' height='72' fill='#b00020'/>\n<text class='alarm white' x='60' y='108'>",
+    );
+    let p = count_last(out, p, n, last);
+    warn(
+        out,
+        p,
+        n,
+        b"</text>\n<text class='white' x='60' y='136'>The room may hold far more than 2000 ppm.</text>\n",
+    )
+}
+
+fn count_last(out: &mut [u8], pen: Pen, n: usize, last: usize) -> Pen {
+    if last < n {
+        return put(out, pen, b"ENDS AT CEILING: the last ", last);
+    }
+    put(out, pen, b"HELD AT CEILING: ", last)
+}
+
+pub fn alarm(out: &mut [u8], pen: Pen, n: usize, ceiling: usize, last: usize) -> Pen {
+    if ceiling == 0 {
+        return say(
+            out,
+            pen,
+            b"<rect x='40' y='76' width='1120' height='72' fill='#f2f2f2'/>\n<text x='60' y='119'>No reading at the ceiling, 2000 ppm.</text>\n",
+        );
+    }
+    if last == 0 {
+        return reached(out, pen, n, ceiling);
+    }
+    at_ceiling(out, pen, n, last)
+}
+
+// ---- the report, with what each line means
+
+// Begins a line of the report.
+fn row(out: &mut [u8], pen: Pen, y: usize, note: &[u8], name: &[u8]) -> Pen {
+    let p = put(out, pen, b"<text class='note' x='660' y='", y);
+    let p = say(out, p, b"'>");
+    let p = say(out, p, note);
+    let p = put(out, p, b"</text>\n<text class='report' x='40' y='", y);
+    named(out, p, name)
+}
+
+fn named(out: &mut [u8], pen: Pen, name: &[u8]) -> Pen {
+    let p = say(out, pen, b"'>");
+    let p = say(out, p, name);
+    say(out, p, b"<tspan x='144'>")
+}
+
+fn end_row(out: &mut [u8], pen: Pen) -> Pen {
+    say(out, pen, b"</tspan></text>\n")
+}
+
+// A line with one number.
+fn one(out: &mut [u8], pen: Pen, y: usize, note: &[u8], name: &[u8], n: usize) -> Pen {
+    let p = row(out, pen, y, note, name);
+    let p = put(out, p, b" ", n);
+    end_row(out, p)
+}
+
+fn list(out: &mut [u8], pen: Pen, t: &[u16]) -> Pen {
+    let mut p = pen;
+    let mut i = 0;
+    while i < t.len() {
+        p = put(out, p, b" ", words::wide(t[i]));
+        i += 1;
+    }
+    p
+}
+
+// The first numbers of a list, at most `most` of them, and how many more there are.
+fn list_some(out: &mut [u8], pen: Pen, t: &[u16], most: usize) -> Pen {
+    if t.len() <= most {
+        return list(out, pen, t);
+    }
+    let p = list(out, pen, &t[0..most]);
+    let p = put(out, p, b" &#8230; ", t.len() - most);
+    say(out, p, b" more")
+}
+
+// A line with the first numbers of a list, at most `most` of them.
+fn some(
+    out: &mut [u8],
+    pen: Pen,
+    y: usize,
+    note: &[u8],
+    name: &[u8],
+    t: &[u16],
+    most: usize,
+) -> Pen {
+    let p = row(out, pen, y, note, name);
+    let p = list_some(out, p, t, most);
+    end_row(out, p)
+}
+
+// A line has room for six lengths of four digits; and for every weighed list, since each of its lengths is less than half of the one before.
+fn patterns(out: &mut [u8], pen: Pen, cover_lens: &[u16], weighed_lens: &[u16], r: Numbers) -> Pen {
+    let normal = [r.k1, r.k2, r.k];
+    let best = [r.best, r.count];
+    let p = some(
+        out,
+        pen,
+        712,
+        b"length that repeats, readings left over, times",
+        b"normal",
+        &normal,
+        3,
+    );
+    let p = some(
+        out,
+        p,
+        740,
+        b"lengths of patterns that cover the whole log",
+        b"covers",
+        cover_lens,
+        6,
+    );
+    let p = some(
+        out,
+        p,
+        768,
+        b"length of the best pattern, readings it covers",
+        b"best",
+        &best,
+        2,
+    );
+    some(
+        out,
+        p,
+        796,
+        b"lengths weighed against it, longest first",
+        b"weighed",
+        weighed_lens,
+        words::WEIGHED_PLACES,
+    )
+}
+
+pub fn report(
+    out: &mut [u8],
+    pen: Pen,
+    n: usize,
+    cover_lens: &[u16],
+    weighed_lens: &[u16],
+    r: Numbers,
+) -> Pen {
+    let p = one(out, pen, 684, b"readings in the log", b"log", n);
+    let p = patterns(out, p, cover_lens, weighed_lens, r);
+    let p = one(
+        out,
+        p,
+        824,
+        b"readings at 2000 ppm or above",
+        b"ceiling",
+        r.ceiling,
+    );
+    one(
+        out,
+        p,
+        852,
+        b"1 if every reading is at the ceiling",
+        b"held",
+        one_if(r.held),
+    )
+}
+
+fn one_if(b: bool) -> usize {
+    if b { 1 } else { 0 }
+}

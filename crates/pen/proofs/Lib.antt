@@ -1,0 +1,3 @@
+-- The laws.
+pub mod Pieces
+pub mod Meaning
