@@ -1,56 +1,21 @@
 // Floor 4: from a plant's file to its picture.
+ghost use lib.ListN.{length};
+ghost use Rattle.words.proofs.Refusals.{Judged};
 use pen::Pen;
 
 // One byte more than the longest file has: a longer input fills it, and is a file of a wrong size.
 const FILE_ROOM: usize = 4 + words::LONGEST;
 
-// ---- what the report says
-
-// The answers on a log, but for the lengths of its covers.
-struct Summary {
-    normal: words::Normal,
-    best: u16,
-    count: u16,
-    covers: u16,
-    weighed: words::Weighed,
-}
-
-// Asks the calls for all of them. The lengths of the covers go into the lent list.
-fn summary_of(x: &[u8], covers: &mut [u16]) -> Summary {
-    let mut best = [0u16; words::LONGEST];
-    let mut count = [0u16; words::LONGEST];
-    finder::enhanced_table(x, &mut best, &mut count);
-    let listed = finder::cover_list(x, covers);
-    Summary {
-        normal: finder::normal_form(x, x.len()),
-        best: row(&best, x.len()),
-        count: row(&count, x.len()),
-        covers: listed.used,
-        weighed: finder::weighed_list(x, x.len()),
-    }
-}
-
-// The row of the first n readings.
-fn row(t: &[u16], n: usize) -> u16 {
-    if n == 0 {
-        return 0;
-    }
-    if t.len() < n {
-        return 0;
-    }
-    t[n - 1]
-}
-
-// The used entries of a list.
-fn front(t: &[u16], used: u16) -> &[u16] {
-    let n = used as usize;
+// The first n entries of a list.
+fn front(t: &[u16], n: usize) -> &[u16] {
     if t.len() < n {
         return t;
     }
     &t[0..n]
 }
 
-fn numbers(x: &[u8], s: Summary) -> legend::Numbers {
+// What the report says in single numbers.
+fn numbers(x: &[u8], s: summary::Summary) -> legend::Numbers {
     let normal = s.normal;
     legend::Numbers {
         k1: normal.k1,
@@ -63,18 +28,19 @@ fn numbers(x: &[u8], s: Summary) -> legend::Numbers {
     }
 }
 
-// ---- the picture
-
-fn draw(x: &[u8], out: &mut [u8]) -> Pen {
+// The picture of an accepted log.
+fn draw(x: &[u8], out: &mut [u8]) -> Pen
+    requires { ⌜ Judged (length (now x)) ⌝ }
+{
     let mut covers = [0u16; words::LONGEST];
-    let s = summary_of(x, &mut covers);
+    let s = summary::of(x, &mut covers);
     let weighed = s.weighed;
     let lens = weighed.lens;
     drawing::draw(
         out,
         x,
         front(&covers, s.covers),
-        front(&lens, weighed.used),
+        front(&lens, words::wide(weighed.used)),
         numbers(x, s),
     )
 }
