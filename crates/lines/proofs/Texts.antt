@@ -8,7 +8,7 @@ use native.Mathlib.Numerals.{add-one}
 use native.Mathlib.Omega.{arith}
 use lib.Dec.{ltb}
 use lib.ListN.{length, getD, take, set, length-append, length-set}
-use lib.Seq.{take-suc, take-suc-set, take-all}
+use lib.Seq.{take-suc, take-all, take-length, paste, paste-zero, paste-suc, take-paste}
 use borrow.Author.Tests.{lt-ltb, le-ltb}
 use mir.Syntax.{w64}
 use mir.Val.{Fits}
@@ -87,33 +87,41 @@ put-put {a = a} {s = s} {t = t} {at = at} p q = record {
   says = q .says ∙ rw (p .says) (append-assoc (take at a) s t);
 }
 
--- `word`: the first i bytes of w are put
+-- `word`: the first i bytes of w stand behind the text, and nothing else has changed
 pub record Copied (w before : List ℕ) (at : ℕ) (after : List ℕ) (i : ℕ) : Type 0 where
   pub within : i ≤ length w
   pub room : length after ≡ length before
-  pub says : take (at + i) after ≡ take at before ++ take i w
+  pub is : after ≡ paste before at w i
 
 pub copied-none : (w l : List ℕ) (at : ℕ) → Copied w l at l 0
-copied-none w l at = record { within = omega arith; room = refl; says = rw add-zero (sym (append-nil _)) }
+copied-none w l at = record { within = omega arith; room = refl; is = paste-zero l at w }
 
 module _ {w before after : List ℕ} {at i : ℕ} (c : Copied w before at after i) where
   pub copied-more : i < length w → at + length w ≤ length before → Copied w before at (set after (at + i) (getD w i 0)) (i + 1)
   copied-more h l = record {
     within = omega arith;
     room = simp length-set (c .room);
-    says =
-        let e : at + (i + 1) ≡ suc (at + i) = omega arith in
-        rw (e, take-suc-set after (at + i) (getD w i 0) (omega (arith, c .room)), c .says, add-one, take-suc w i 0 h) (append-assoc (take at before) (take i w) _);
+    is = rw (add-one, c .is) (paste-suc before at w i 0 (omega arith) h);
   }
 
-  pub copied-all : length w ≤ i → Put before at w after (at + i)
-  copied-all h = record { end = omega (arith, c .within); says = c .says ∙ ap (λ (v : List ℕ). take at before ++ v) (take-all i w h) }
+  pub copied-whole : length w ≤ i → after ≡ paste before at w (length w)
+  copied-whole h =
+      let e : i ≡ length w = omega (arith, c .within) in
+      rw (← e) (c .is)
+
+  pub copied-all : length w ≤ i → at + length w ≤ length before → Put before at w after (at + i)
+  copied-all h l =
+      let e : i ≡ length w = omega (arith, c .within) in
+      rw (copied-whole h, e) (record {
+        end = refl;
+        says = take-paste before at w (length w) (omega arith) (omega arith) ∙ ap (λ (v : List ℕ). take at before ++ v) (take-length w);
+      })
 
 -- ---- numbers behind the text
 
 -- `number`: what `io` makes of a number are its digits
 module _ {k n : ℕ} {s : List ℕ} (e : s ≡ Io.digits 10 k n) (f : Io.Fewest 10 1 n k) (w : Fits w64 n) where
-  decimal-is : s ≡ decimal n
+  pub decimal-is : s ≡ decimal n
   unfolding decimal
   decimal-is = e ∙ digits-are decimalRoom k n f (digits-few 19 k n f (omega arith))
 

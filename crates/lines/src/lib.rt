@@ -4,6 +4,7 @@ ghost use mathlib.Core.Path.{_≡_};
 ghost use mathlib.Core.List.{[], _∷_};
 ghost use Prim.Native.Nat.{_+_, _*_, _≤_, _<_};
 ghost use lib.ListN.{length};
+ghost use lib.Seq.{paste};
 ghost use Rattle.lines.specs.Text as Text;
 
 // The most digits of a number, and the most bytes that a table's entry takes in a line (`decimalRoom` and `fieldRoom` of specs/).
@@ -13,10 +14,11 @@ pub const FIELD: usize = 6;
 
 // ---- pieces
 
-// Puts a word.
-fn word(text: &mut [u8], at: usize, w: &[u8]) -> usize
+// Puts a word; nothing else in the buffer changes.
+pub fn word(text: &mut [u8], at: usize, w: &[u8]) -> usize
     requires { ⌜ at + length (now w) ≤ length (now text) ⌝ }
-    ensures { λ r. ⌜ Text.Put (now (text .entry)) at (now (w .entry)) (now (text .exit)) r ⌝ }
+    ensures put { λ r. ⌜ Text.Put (now (text .entry)) at (now (w .entry)) (now (text .exit)) r ⌝ }
+    ensures whole { λ _. ⌜ now (text .exit) ≡ paste (now (text .entry)) at (now (w .entry)) (length (now (w .entry))) ⌝ }
 {
     let mut i = 0;
     while i < w.len() {

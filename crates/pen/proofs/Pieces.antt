@@ -3,17 +3,16 @@ use mathlib.Core.Bool.{Bool, true, false}
 use mathlib.Core.Path.{_≡_, refl, sym, _∙_}
 use mathlib.Core.List.{List, []}
 use Prim.Native.Nat.{ℕ, _+_, _-_, _≤_, _<_}
-use native.Mathlib.Numerals.{add-one}
 use native.Mathlib.Omega.{arith}
-use lib.ListN.{length, getD, take, set}
-use lib.Seq.{paste, paste-zero, paste-suc, length-paste}
+use lib.ListN.{length, take}
+use lib.Seq.{paste, length-paste}
 use borrow.Author.Tests.{le-leb, lt-leb, leb-true}
 use mir.Syntax.{w64}
 use mir.Val.{Fits}
 use Rattle.io.specs.Digits as Io
 use Rattle.words.proofs.Tests.{by-test, and-left}
-use Rattle.lines.specs.Text.{decimal, decimalRoom}
-use Rattle.lines.proofs.Texts.{digits-are, digits-few}
+use Rattle.lines.specs.Text.{decimal}
+use Rattle.lines.proofs.Texts.{decimal-is}
 use Rattle.pen.specs.declared.Pen.{Pen}
 use Rattle.pen.specs.Pens.{takes, penAfter, outAfter, penAfterNumber, outAfterNumber, textOf}
 
@@ -31,30 +30,6 @@ module _ (room : ℕ) (p : Pen) (n : ℕ) where
   pub room-left : p .at ≤ room → n ≤ room - p .at → p .fits ≡ takes room p n
   unfolding takes
   room-left h l = rw (le-leb (p .at + n) room (omega arith))
-
--- ---- `copy`: the first i bytes of the piece stand behind the text
-
-pub record Pasted (before : List ℕ) (at : ℕ) (piece after : List ℕ) (i : ℕ) : Type 0 where
-  pub within : i ≤ length piece
-  pub room : length after ≡ length before
-  pub is : after ≡ paste before at piece i
-
-pub pasted-none : (out : List ℕ) (at : ℕ) (piece : List ℕ) → Pasted out at piece out 0
-pasted-none out at piece = record { within = omega arith; room = refl; is = paste-zero out at piece }
-
-module _ {before piece after : List ℕ} {at i : ℕ} (c : Pasted before at piece after i) where
-  pub pasted-room : i < length piece → at + length piece ≤ length before → at + i < length after
-  pasted-room h l = omega (arith, c .room)
-
-  pub pasted-more : i < length piece → at + length piece ≤ length before → Pasted before at piece (set after (at + i) (getD piece i 0)) (i + 1)
-  pasted-more h l =
-      let e : set after (at + i) (getD piece i 0) ≡ paste before at piece (i + 1) = rw (add-one, c .is) (paste-suc before at piece i 0 (omega arith) h) in
-      record { within = omega arith; room = rw e (length-paste before at piece (i + 1) (omega arith) (omega arith)); is = e }
-
-  pub pasted-all : length piece ≤ i → after ≡ paste before at piece (length piece)
-  pasted-all h =
-      let e : i ≡ length piece = omega (arith, c .within) in
-      rw (← e) (c .is)
 
 -- ---- `say` and `text`: whether there is room is b
 
@@ -108,15 +83,11 @@ out-length out p piece =
 
 -- what `io` makes of a number are its digits
 module _ {k n : ℕ} {s : List ℕ} (e : s ≡ Io.digits 10 k n) (f : Io.Fewest 10 1 n k) (w : Fits w64 n) where
-  decimal-is : s ≡ decimal n
-  unfolding decimal
-  decimal-is = e ∙ digits-are decimalRoom k n f (digits-few 19 k n f (omega arith))
-
   module _ (out : List ℕ) (p : Pen) (piece : List ℕ) {mid : List ℕ} {named : Pen} (h : mid ≡ outAfter out p piece) (g : named ≡ penAfter (length out) p piece) where
     pub number-pen : {r : Pen} → r ≡ penAfter (length mid) named s → r ≡ penAfterNumber (length out) p piece n
     unfolding penAfterNumber
-    number-pen q = q ∙ rw (h, out-length out p piece, g, decimal-is)
+    number-pen q = q ∙ rw (h, out-length out p piece, g, decimal-is e f w)
 
     pub number-out : {after : List ℕ} → after ≡ outAfter mid named s → after ≡ outAfterNumber out p piece n
     unfolding outAfterNumber
-    number-out q = q ∙ rw (h, g, decimal-is)
+    number-out q = q ∙ rw (h, g, decimal-is e f w)

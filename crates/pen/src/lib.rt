@@ -2,9 +2,7 @@
 //
 // What does not fit is not put, and neither is anything after it: a text is whole or it is none. So nobody has to show beforehand that there is room.
 ghost use mathlib.Core.Path.{_≡_};
-ghost use Prim.Native.Nat.{_+_, _≤_};
 ghost use lib.ListN.{length};
-ghost use lib.Seq.{paste};
 ghost use Rattle.pen.specs.Pens as Pens;
 
 // Where the text ends, and whether every piece has been put.
@@ -33,27 +31,13 @@ fn takes(room: usize, p: Pen, n: usize) -> bool
     p.fits
 }
 
-// Copies a piece behind the first `at` bytes, and answers where it ends.
-fn copy(out: &mut [u8], at: usize, piece: &[u8]) -> usize
-    requires { ⌜ at + length (now piece) ≤ length (now out) ⌝ }
-    ensures end { λ r. ⌜ r ≡ at + length (now (piece .entry)) ⌝ }
-    ensures text { λ _. ⌜ now (out .exit) ≡ paste (now (out .entry)) at (now (piece .entry)) (length (now (piece .entry))) ⌝ }
-{
-    let mut i = 0;
-    while i < piece.len() {
-        out[at + i] = piece[i];
-        i += 1;
-    }
-    at + i
-}
-
 // Puts a piece.
 pub fn say(out: &mut [u8], p: Pen, piece: &[u8]) -> Pen
     ensures pen { λ r. ⌜ r ≡ Pens.penAfter (length (now (out .entry))) p (now (piece .entry)) ⌝ }
     ensures text { λ _. ⌜ now (out .exit) ≡ Pens.outAfter (now (out .entry)) p (now (piece .entry)) ⌝ }
 {
     if takes(out.len(), p, piece.len()) {
-        let end = copy(out, p.at, piece);
+        let end = lines::word(out, p.at, piece);
         return Pen {
             at: end,
             fits: true,

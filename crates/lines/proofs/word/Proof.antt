@@ -2,7 +2,7 @@
 use Prim.Native.Nat.{_-_}
 use borrow.Author.Needs.{needs}
 use lib.ListN.{length}
-use Rattle.lines.proofs.Texts.{Copied, copied-none, copied-more, copied-all}
+use Rattle.lines.proofs.Texts.{Copied, copied-none, copied-more, copied-all, copied-whole}
 use Rattle.lines.proofs.word.Statement.{statement}
 use Rattle.lines.proofs.word.Tie as tie
 
@@ -27,4 +27,4 @@ word-spec =
     (λ c. search (needs, copied-more))
     (λ c. search needs)
     (λ c. search needs)
-    (λ c. search copied-all))
+    (λ c. (search (needs, copied-all), search (needs, copied-whole))))
