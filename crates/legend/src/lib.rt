@@ -76,32 +76,18 @@ pub fn alarm(out: &mut [u8], pen: Pen, n: usize, ceiling: usize, last: usize) ->
     at_ceiling(out, pen, n, last)
 }
 
-// ---- the report, with what each line means
+// ---- the report: each line after its meaning, which stands to the right of it
 
-// Begins a line of the report.
-fn row(out: &mut [u8], pen: Pen, y: usize, note: &[u8], name: &[u8]) -> Pen {
-    let p = put(out, pen, b"<text class='note' x='660' y='", y);
-    let p = say(out, p, b"'>");
-    let p = say(out, p, note);
-    let p = put(out, p, b"</text>\n<text class='report' x='40' y='", y);
-    named(out, p, name)
-}
-
-fn named(out: &mut [u8], pen: Pen, name: &[u8]) -> Pen {
-    let p = say(out, pen, b"'>");
-    let p = say(out, p, name);
-    say(out, p, b"<tspan x='144'>")
-}
-
-fn end_row(out: &mut [u8], pen: Pen) -> Pen {
+// Ends a line.
+fn end(out: &mut [u8], pen: Pen) -> Pen {
     say(out, pen, b"</tspan></text>\n")
 }
 
 // A line with one number.
-fn one(out: &mut [u8], pen: Pen, y: usize, note: &[u8], name: &[u8], n: usize) -> Pen {
-    let p = row(out, pen, y, note, name);
+fn one(out: &mut [u8], pen: Pen, line: &[u8], n: usize) -> Pen {
+    let p = say(out, pen, line);
     let p = put(out, p, b" ", n);
-    end_row(out, p)
+    end(out, p)
 }
 
 fn list(out: &mut [u8], pen: Pen, t: &[u16]) -> Pen {
@@ -124,19 +110,11 @@ fn list_some(out: &mut [u8], pen: Pen, t: &[u16], most: usize) -> Pen {
     say(out, p, b" more")
 }
 
-// A line with the first numbers of a list, at most `most` of them.
-fn some(
-    out: &mut [u8],
-    pen: Pen,
-    y: usize,
-    note: &[u8],
-    name: &[u8],
-    t: &[u16],
-    most: usize,
-) -> Pen {
-    let p = row(out, pen, y, note, name);
+// A line with the first numbers of a list.
+fn some(out: &mut [u8], pen: Pen, line: &[u8], t: &[u16], most: usize) -> Pen {
+    let p = say(out, pen, line);
     let p = list_some(out, p, t, most);
-    end_row(out, p)
+    end(out, p)
 }
 
 // A line has room for six lengths of four digits; and for every weighed list, since each of its lengths is less than half of the one before.
@@ -146,36 +124,32 @@ fn patterns(out: &mut [u8], pen: Pen, cover_lens: &[u16], weighed_lens: &[u16], 
     let p = some(
         out,
         pen,
-        712,
-        b"length that repeats, readings left over, times",
-        b"normal",
+        b"<text class='note' x='660' y='712'>length that repeats, readings left over, times</text>
+<text class='report' x='40' y='712'>normal<tspan x='144'>",
         &normal,
         3,
     );
     let p = some(
         out,
         p,
-        740,
-        b"lengths of patterns that cover the whole log",
-        b"covers",
+        b"<text class='note' x='660' y='740'>lengths of patterns that cover the whole log</text>
+<text class='report' x='40' y='740'>covers<tspan x='144'>",
         cover_lens,
         6,
     );
     let p = some(
         out,
         p,
-        768,
-        b"length of the best pattern, readings it covers",
-        b"best",
+        b"<text class='note' x='660' y='768'>length of the best pattern, readings it covers</text>
+<text class='report' x='40' y='768'>best<tspan x='144'>",
         &best,
         2,
     );
     some(
         out,
         p,
-        796,
-        b"lengths weighed against it, longest first",
-        b"weighed",
+        b"<text class='note' x='660' y='796'>lengths weighed against it, longest first</text>
+<text class='report' x='40' y='796'>weighed<tspan x='144'>",
         weighed_lens,
         words::WEIGHED_PLACES,
     )
@@ -189,22 +163,26 @@ pub fn report(
     weighed_lens: &[u16],
     r: Numbers,
 ) -> Pen {
-    let p = one(out, pen, 684, b"readings in the log", b"log", n);
+    let p = one(
+        out,
+        pen,
+        b"<text class='note' x='660' y='684'>readings in the log</text>
+<text class='report' x='40' y='684'>log<tspan x='144'>",
+        n,
+    );
     let p = patterns(out, p, cover_lens, weighed_lens, r);
     let p = one(
         out,
         p,
-        824,
-        b"readings at 2000 ppm or above",
-        b"ceiling",
+        b"<text class='note' x='660' y='824'>readings at 2000 ppm or above</text>
+<text class='report' x='40' y='824'>ceiling<tspan x='144'>",
         r.ceiling,
     );
     one(
         out,
         p,
-        852,
-        b"1 if every reading is at the ceiling",
-        b"held",
+        b"<text class='note' x='660' y='852'>1 if every reading is at the ceiling</text>
+<text class='report' x='40' y='852'>held<tspan x='144'>",
         one_if(r.held),
     )
 }
