@@ -125,7 +125,7 @@ finder_written finder_cover_table(const uint8_t *x, size_t n, uint16_t *t, size_
 finder_weighing finder_enhanced_table(const uint8_t *x, size_t n, uint16_t *best, size_t bn, uint16_t *count, size_t cn);
 
 /*
- * A window: the m readings after the first a, judged as a log of their own. Its four tables go to rows a + 1 to a + m.
+ * A window: the m readings after the first a, judged as a log of their own. Its five columns go to rows a + 1 to a + m.
  * Answers the weighed total of the window.
  * Refuses: EMPTY; LONG; PLACE where m is 0 or a + m > n; SHORT where one of bn, pn, cn, en, kn is below a + m.
  * The sum a + m never wraps.

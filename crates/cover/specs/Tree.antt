@@ -12,7 +12,6 @@ use lib.Dec.{eqb}
 use Rattle.words.specs.Search.{howMany}
 use Rattle.words.specs.Words.{cover}
 use Rattle.words.specs.Tables.{borderRow, coverRow}
-use Rattle.words.specs.Refusals.{longest}
 use Rattle.words.proofs.Covers.{Covers}
 use Rattle.words.proofs.Tables.{Room, Holds}
 

@@ -69,8 +69,8 @@ fn told(x: &[u8], s: summary::Summary, covers: &[u16], weighed: &[u16], text: &m
     let held = logfile::held(x);
     let normal = s.normal;
     let shaped = shape(x.len() as u16, normal, covers, text);
-    let weighed = borders(s.best, s.count, weighed, text, shaped);
-    ceilings(ceiling as u16, held, text, weighed)
+    let bordered = borders(s.best, s.count, weighed, text, shaped);
+    ceilings(ceiling as u16, held, text, bordered)
 }
 
 // The text of the report on an accepted log.

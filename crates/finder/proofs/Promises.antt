@@ -1,20 +1,19 @@
 -- What the contracts come to for a caller: the regulator's questions, answered of the tables and of the list that a call leaves. Assumes nothing.
-use mathlib.Core.Path.{_≡_, refl, sym, ap, _∙_}
+use mathlib.Core.Path.{_≡_, ap, _∙_}
 use mathlib.Core.List.{List, [], _∷_, map}
-use Prim.Native.Nat.{ℕ, zero, suc, _+_, _≤_, _<_}
+use Prim.Native.Nat.{ℕ, suc, _+_, _≤_, _<_}
 use native.Mathlib.Omega.{arith}
 use lib.Dec.{eqb}
 use lib.ListN.{length, getD}
 use Rattle.words.specs.declared.Weighed.{Weighed}
 use Rattle.words.specs.declared.Weighing.{Weighing}
-use Rattle.words.specs.Words.{best, count, limit, weighed, used, covered}
+use Rattle.words.specs.Words.{limit, weighed, used}
 use Rattle.words.specs.Tables.{Column, bestRow, countRow}
 use Rattle.words.specs.Refusals.{tableNo, prefixNo}
 use Rattle.words.specs.Answers as A
 use Rattle.words.proofs.Tables.{getD-written, written-stays}
 use Rattle.words.proofs.Places.{getD-places}
 use Rattle.words.proofs.Refusals.{answer-yes, answer-no, prefix-inside}
-use Rattle.words.proofs.Borders.{Border}
 use Rattle.words.proofs.Bests.{Best, best-best}
 use Rattle.words.proofs.Weighs.{used-limit, weighed-double}
 

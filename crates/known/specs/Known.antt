@@ -1,6 +1,6 @@
 -- The strings with known results, P1 to P8, as one table: for each string what is asked of it, and the result. Assumes nothing.
 use mathlib.Core.List.{List, [], _∷_, map}
-use Prim.Native.Nat.{ℕ, suc}
+use Prim.Native.Nat.{ℕ}
 use Prim.Native.String.{String}
 use Prim.Native.Char.{code}
 use lib.Dec.{eqb}

@@ -3,7 +3,7 @@ use mathlib.Core.Path.{_≡_, refl, sym, ap, _∙_}
 use mathlib.Core.List.{List, [], _∷_, _++_, append-assoc, append-nil}
 use mathlib.Core.Logic.{⊎-elim}
 use Prim.Native.Nat.{ℕ, zero, suc, _+_, _-_, _*_, _/_, _%_, _^_, _≤_, _<_}
-use native.Mathlib.Nat.{pow-suc, mod-eq-of-lt, div-lt-iff-lt-mul, le-div-iff-mul-le, add-zero, one-le-pow, pow-le-pow-right}
+use native.Mathlib.Nat.{pow-suc, mod-eq-of-lt, div-lt-iff-lt-mul, le-div-iff-mul-le, one-le-pow, pow-le-pow-right}
 use native.Mathlib.Numerals.{add-one}
 use native.Mathlib.Omega.{arith}
 use lib.Dec.{ltb}

@@ -10,16 +10,12 @@ const LINE: usize = 256;
 
 // ---- lines
 
-pub fn write(text: &[u8]) -> bool {
-    output::write(1, 2, text)
-}
-
 fn say(word: &[u8], t: &[u16]) -> bool
     requires { ⌜ (length (now word) ≤ 32) × (length (now t) ≤ 32) ⌝ }
 {
     let mut line = [0u8; LINE];
     let end = lines::line(&mut line, 0, word, t);
-    write(&line[0..end])
+    output::write(&line[0..end])
 }
 
 // The first n entries of t, where it has them and a line holds them.
@@ -43,7 +39,7 @@ fn say_first(word: &[u8], t: &[u16], n: usize) -> bool
 fn say_total(n: u32) -> bool {
     let mut line = [0u8; LINE];
     let end = lines::counted(&mut line, 0, b"total", n as usize);
-    write(&line[0..end])
+    output::write(&line[0..end])
 }
 
 // The first n rows of the five columns.
@@ -159,7 +155,7 @@ fn pattern(x: &[u8]) -> bool {
     if no != 0 {
         return say(b"pattern refused", &[no as u16]);
     }
-    write(b"pattern ") && write(finder::best_pattern(x)) && write(b"\n")
+    output::write(b"pattern ") && output::write(finder::best_pattern(x)) && output::write(b"\n")
 }
 
 pub fn answers(x: &[u8]) -> bool

@@ -6,7 +6,6 @@ ghost use denote.Ref.{ptr};
 ghost use lib.Dec.{eqb};
 ghost use lib.ListN.{length};
 ghost use Rattle.words.specs.PlantFile as PlantFile;
-ghost use Rattle.words.specs.Search.{any};
 ghost use Rattle.logfile.specs.Place.{unknownSymbol, partPlace};
 
 pub const VERSION: u8 = 6;
@@ -14,6 +13,11 @@ pub const VERSION: u8 = 6;
 pub const FILE: u8 = 7;
 
 pub const SYMBOL: u8 = 8;
+
+// The bytes of the longest file; and room for one more: a longer input fills it, and is a file of a wrong size.
+pub const LONGEST_FILE: usize = 3 + words::LONGEST;
+
+pub const FILE_ROOM: usize = LONGEST_FILE + 1;
 
 // The symbol of a reading at the ceiling; no symbol is greater.
 pub const CEILING: u8 = 20;

@@ -36,7 +36,7 @@ fn starts(x: &[u8], q: usize, p: usize) -> bool
 // A reading's mark for a pattern: an occurrence starts there; elsewhere inside one; outside.
 pub const START: u8 = 2;
 
-pub const INSIDE: u8 = 1;
+const INSIDE: u8 = 1;
 
 pub const OUTSIDE: u8 = 0;
 

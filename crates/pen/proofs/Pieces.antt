@@ -11,7 +11,6 @@ use mir.Syntax.{w64}
 use mir.Val.{Fits}
 use Rattle.io.specs.Digits as Io
 use Rattle.words.proofs.Tests.{by-test, and-left}
-use Rattle.lines.specs.Text.{decimal}
 use Rattle.lines.proofs.Texts.{decimal-is}
 use Rattle.pen.specs.declared.Pen.{Pen}
 use Rattle.pen.specs.Pens.{takes, penAfter, outAfter, penAfterNumber, outAfterNumber, textOf}

@@ -1,14 +1,10 @@
 // Draws each file that an argument names, and stops at the first piece that cannot be written.
-fn write(text: &[u8]) -> bool {
-    output::write(libc::STDOUT_FILENO, libc::STDERR_FILENO, text)
-}
-
 fn draw(path: &[u8]) -> bool {
     let from = os::open_read(path);
     if from < 0 {
-        return write(b"missing\n");
+        return output::write(b"missing\n");
     }
-    let written = picturing::run(from, libc::STDOUT_FILENO, libc::STDERR_FILENO);
+    let written = picturing::run(from);
     libc::close(from);
     written
 }
@@ -17,7 +13,7 @@ fn draw(path: &[u8]) -> bool {
 fn one(k: usize) -> bool {
     let mut path = io::buffer();
     let n = os::arg(k, &mut path);
-    write(&path[..n]) && write(b"\n") && draw(&path[..n])
+    output::write(&path[..n]) && output::write(b"\n") && draw(&path[..n])
 }
 
 fn main() {

@@ -3,9 +3,6 @@ ghost use lib.ListN.{length};
 ghost use Rattle.words.proofs.Refusals.{Judged};
 use pen::Pen;
 
-// One byte more than the longest file has: a longer input fills it, and is a file of a wrong size.
-const FILE_ROOM: usize = 4 + words::LONGEST;
-
 // The first n entries of a list.
 fn front(t: &[u16], n: usize) -> &[u16] {
     if t.len() < n {
@@ -54,14 +51,14 @@ pub fn picture_of(file: &[u8], out: &mut [u8]) -> Pen {
     draw(logfile::symbols(file), out)
 }
 
-// Reads a file and writes its picture whole, or tells `say` in one line that it cannot. Answers whether it was written.
-pub fn run(from: i32, to: i32, say: i32) -> bool {
-    let mut file = [0u8; FILE_ROOM];
+// Reads a file and writes its picture. Whether it was written whole.
+pub fn run(fd: i32) -> bool {
+    let mut file = [0u8; logfile::FILE_ROOM];
     let mut out = [0u8; drawing::ROOM];
-    let n = io::read_full(from, &mut file);
+    let n = io::read_full(fd, &mut file);
     let p = picture_of(&file[..n], &mut out);
     if p.fits {
-        return output::write(to, say, pen::text(&out, p));
+        return output::write(pen::text(&out, p));
     }
-    output::fail(say)
+    output::fail()
 }

@@ -1,4 +1,4 @@
 // Readings in whole ppm on standard input, one a line, to the plant's file on standard output.
 fn main() {
-    ppm_lines::run(libc::STDIN_FILENO, libc::STDOUT_FILENO, libc::STDERR_FILENO);
+    ppm_lines::run(0);
 }

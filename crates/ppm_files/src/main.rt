@@ -3,7 +3,7 @@
 ghost use Prim.Native.Nat.{_≤_};
 
 fn print_byte(b: u8) -> bool {
-    io::write_all(1, b" ") && io::print_decimal(1, b as u64)
+    output::write(b" ") && output::decimal(b as u64)
 }
 
 fn print_bytes(s: &[u8]) -> bool {
@@ -14,7 +14,7 @@ fn print_bytes(s: &[u8]) -> bool {
         }
         i += 1;
     }
-    io::write_all(1, b"\n")
+    output::write(b"\n")
 }
 
 fn most(n: usize) -> usize
@@ -25,17 +25,15 @@ fn most(n: usize) -> usize
 
 fn print_file(file: &[u8]) -> bool {
     let n = most(file.len());
-    io::print_decimal(1, file.len() as u64)
-        && io::write_all(1, b" bytes:")
-        && print_bytes(&file[0..n])
+    output::decimal(file.len() as u64) && output::write(b" bytes:") && print_bytes(&file[0..n])
 }
 
 fn make(from: i32) -> bool {
-    let mut file = [0u8; ppm_lines::LONGEST_FILE];
+    let mut file = [0u8; logfile::LONGEST_FILE];
     let made = ppm_lines::make_file(from, 1, &mut file);
     let n = made.len;
     if n == 0 {
-        return made.said;
+        return made.said || output::fail();
     }
     print_file(&file[..n])
 }
@@ -43,7 +41,7 @@ fn make(from: i32) -> bool {
 fn one(path: &[u8]) -> bool {
     let from = os::open_read(path);
     if from < 0 {
-        return io::write_all(1, b"missing\n");
+        return output::write(b"missing\n");
     }
     let all = make(from);
     libc::close(from);
@@ -53,17 +51,17 @@ fn one(path: &[u8]) -> bool {
 fn named(k: usize) -> bool {
     let mut path = io::buffer();
     let n = os::arg(k, &mut path);
-    io::write_all(1, &path[..n]) && io::write_all(1, b": ") && one(&path[..n])
+    output::write(&path[..n]) && output::write(b": ") && one(&path[..n])
 }
 
 fn main() {
     let count = os::arg_count();
     let mut k = 1;
     while k < count {
-        if !named(k) {
-            output::fail(2);
+        if named(k) {
+            k += 1;
+        } else {
             return;
         }
-        k += 1;
     }
 }

@@ -4,9 +4,6 @@ ghost use Rattle.ppm_text.specs.States.{Room, After, Holds};
 use ppm_text::Fault;
 use ppm_text::State;
 
-// The bytes of the file of the longest log.
-pub const LONGEST_FILE: usize = 3 + words::LONGEST;
-
 // How the input stands after a read.
 pub enum Input {
     More,
@@ -130,7 +127,7 @@ fn finish(t: Reading, say: i32, file: &mut [u8]) -> Making
 }
 
 // Reads a text to its end and makes its file. What is wrong is said.
-pub fn make_file(from: i32, say: i32, file: &mut [u8; LONGEST_FILE]) -> Making
+pub fn make_file(from: i32, say: i32, file: &mut [u8; logfile::LONGEST_FILE]) -> Making
     ensures { λ r. ⌜ Holds (r .len) (now (file .exit)) ⌝ }
 {
     let t = read_text(from, file);
@@ -138,19 +135,19 @@ pub fn make_file(from: i32, say: i32, file: &mut [u8; LONGEST_FILE]) -> Making
 }
 
 // Writes a file: of some text, and one that the plant's reader accepts.
-fn put(to: i32, say: i32, file: &[u8])
+fn put(file: &[u8])
     requires { ⌜ Made (now file) ⌝ }
 {
-    output::write(to, say, file);
+    output::write(file);
 }
 
-// From a text of readings to the plant's file. What is wrong is said apart.
-pub fn run(from: i32, to: i32, say: i32) {
-    let mut file = [0u8; LONGEST_FILE];
-    let made = make_file(from, say, &mut file);
+// From a text of readings to the plant's file. What is wrong is said on standard error.
+pub fn run(from: i32) {
+    let mut file = [0u8; logfile::LONGEST_FILE];
+    let made = make_file(from, libc::STDERR_FILENO, &mut file);
     let n = made.len;
     if n == 0 {
         return;
     }
-    put(to, say, &file[..n]);
+    put(&file[..n]);
 }

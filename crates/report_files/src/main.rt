@@ -1,20 +1,16 @@
 // Writes the report on each file that an argument names, after the file's name.
 
-fn write(text: &[u8]) -> bool {
-    output::write(1, 2, text)
-}
-
 // Whether all of it was written.
 fn report_on(k: usize) -> bool {
     let mut path = io::buffer();
     let n = os::arg(k, &mut path);
-    write(&path[..n]) && write(b"\n") && report_of(&path[..n])
+    output::write(&path[..n]) && output::write(b"\n") && report_of(&path[..n])
 }
 
 fn report_of(path: &[u8]) -> bool {
     let fd = os::open_read(path);
     if fd < 0 {
-        return write(b"missing\n");
+        return output::write(b"missing\n");
     }
     let whole = reporting::report(fd);
     libc::close(fd);

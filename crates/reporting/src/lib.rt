@@ -7,9 +7,6 @@ ghost use Rattle.lines.specs.Text.{Says};
 ghost use Rattle.facts.specs.Report.{reportRoom, reportText};
 ghost use Rattle.reporting.specs.Texts.{fileText, rowsRoom, rowsText};
 
-// One byte more than the longest file has: a longer input fills it, and is a file of a wrong size.
-const FILE_ROOM: usize = 4 + words::LONGEST;
-
 // The text of the report on a file.
 pub fn report_text(f: &[u8], text: &mut [u8]) -> usize
     requires { ⌜ reportRoom ≤ length (now text) ⌝ }
@@ -36,18 +33,18 @@ pub fn rows_text(f: &[u8], text: &mut [u8]) -> usize
 
 // Reads a file and writes the report on it. Whether it was written whole.
 pub fn report(fd: i32) -> bool {
-    let mut file = [0u8; FILE_ROOM];
+    let mut file = [0u8; logfile::FILE_ROOM];
     let mut text = [0u8; facts::TEXT];
     let n = io::read_full(fd, &mut file);
     let end = report_text(&file[..n], &mut text);
-    output::write(1, 2, &text[0..end])
+    output::write(&text[0..end])
 }
 
 // Reads a file and writes every row of its tables. Whether they were written whole.
 pub fn rows(fd: i32) -> bool {
-    let mut file = [0u8; FILE_ROOM];
+    let mut file = [0u8; logfile::FILE_ROOM];
     let mut text = [0u8; table::TEXT];
     let n = io::read_full(fd, &mut file);
     let end = rows_text(&file[..n], &mut text);
-    output::write(1, 2, &text[0..end])
+    output::write(&text[0..end])
 }

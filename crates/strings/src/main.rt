@@ -5,10 +5,10 @@ ghost use lib.ListN.{length};
 fn string(name: &[u8], x: &[u8]) -> bool
     requires { ⌜ length (now x) ≤ 28 ⌝ }
 {
-    listing::write(name)
-        && listing::write(b" ")
-        && listing::write(x)
-        && listing::write(b"\n")
+    output::write(name)
+        && output::write(b" ")
+        && output::write(x)
+        && output::write(b"\n")
         && listing::tables(x)
         && listing::answers(x)
 }

@@ -38,7 +38,7 @@ fn across(k: usize, n: usize) -> usize
 
 // How far down a reading lies.
 pub fn down(symbol: u8) -> usize {
-    if 20 <= symbol {
+    if logfile::CEILING <= symbol {
         return 3000;
     }
     33000 - (symbol as usize) * 1500

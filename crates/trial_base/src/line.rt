@@ -1,21 +1,11 @@
-// What the trial prints. `whole` is whether all before was written, and the answer whether this was too. The first piece that cannot be written is
-// told on standard error, and no other is tried.
+// What the trial prints. `whole` is whether all before was written, and the answer whether this was too: after the first piece that cannot be written no
+// other is tried.
 pub fn say(whole: bool, text: &[u8]) -> bool {
-    if whole {
-        output::write(1, 2, text)
-    } else {
-        false
-    }
+    whole && output::write(text)
 }
 
 pub fn decimal(whole: bool, n: u64) -> bool {
-    if !whole {
-        return false;
-    }
-    if io::print_decimal(1, n) {
-        return true;
-    }
-    output::fail(2)
+    whole && output::decimal(n)
 }
 
 // A number after a space.

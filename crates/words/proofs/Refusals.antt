@@ -9,7 +9,7 @@ use lib.Dec.{eqb, ltb}
 use lib.ListN.{length, getD}
 use borrow.Author.Tests.{eqb-false, ltb-false, ltb-true, le-ltb, eq-eqb, ne-eqb}
 use Rattle.words.specs.Refusals.{Refusal, firstNo, empty, long, fewer, longest, outside, tableNo, logNo, prefixNo, coverTestNo, bestNo, windowNo}
-use Rattle.words.specs.Answers.{accepted, answer, Outcome, Lent, outcome}
+use Rattle.words.specs.Answers.{accepted, answer, Lent, outcome}
 use Rattle.words.proofs.Tests.{by-test}
 use Rattle.words.proofs.Tables.{Room}
 

@@ -2,7 +2,7 @@
 -- Row r, from 0, is the one for the prefix of length r + 1.
 use mathlib.Core.List.{List, [], _∷_, _++_}
 use Prim.Native.Nat.{ℕ, zero, suc, _+_}
-use lib.ListN.{length, take, drop}
+use lib.ListN.{take, drop}
 use lib.Dec.{eqb}
 use Rattle.words.specs.Words.{border, prefix, cover, best, count}
 

@@ -1,6 +1,6 @@
--- `ppm_files::main` meets its contract. The loop's measure is the number of arguments left. Assumes nothing.
-use Prim.Native.Nat.{_-_}
+-- `ppm_files::main` meets its contract. The measure is the number of arguments left. Assumes nothing.
 use borrow.Author.Needs.{needs}
+use Prim.Native.Nat.{_-_}
 use Rattle.ppm_files.proofs.main.Statement.{statement}
 use Rattle.ppm_files.proofs.main.Tie as tie
 
@@ -18,7 +18,6 @@ main-spec =
     μ-loop
     (λ c κs. search needs)
     (λ c. search needs)
-    (λ c κs. search needs)
     (λ c κs. search needs)
     (λ c. search needs)
     (λ c. search needs)
