@@ -15,12 +15,12 @@
 #include <time.h>
 #include <valgrind/callgrind.h>
 
-enum { COLUMNS = 5, CALLS = 6, IMPLEMENTATIONS = 3, REPEATS = 301 };
+enum { COLUMNS = 5, CALLS = 7, IMPLEMENTATIONS = 3, REPEATS = 301 };
 
 /* border, prefix, cover, best, count */
 typedef struct {
     uint16_t column[COLUMNS][FINDER_LONGEST];
-    uint32_t total;
+    uint32_t total, ceiling;
 } tables;
 
 typedef void call(const uint8_t *x, size_t n, tables *t);
@@ -57,6 +57,12 @@ static void proved_pattern(const uint8_t *x, size_t n, tables *t)
     t->column[3][n - 1] = finder_best_pattern(x, n).len;
 }
 
+static void proved_ceiling(const uint8_t *x, size_t n, tables *t)
+{
+    finder_held h = finder_ceiling(x, n);
+    t->ceiling = h.ceiling + (h.held ? HELD : 0);
+}
+
 #define CALLS_OF(language)                                                                                                         \
     static void plain_##language##_border(const uint8_t *x, size_t n, tables *t) { language##_border(x, n, t->column[0]); }        \
     static void plain_##language##_prefix(const uint8_t *x, size_t n, tables *t) { language##_prefix(x, n, t->column[1]); }        \
@@ -68,7 +74,8 @@ static void proved_pattern(const uint8_t *x, size_t n, tables *t)
     static void plain_##language##_window(const uint8_t *x, size_t n, tables *t)                                                   \
     {                                                                                                                              \
         t->total = language##_all(x, n, t->column[0], t->column[1], t->column[2], t->column[3], t->column[4]);                     \
-    }
+    }                                                                                                                              \
+    static void plain_##language##_ceiling(const uint8_t *x, size_t n, tables *t) { t->ceiling = language##_ceiling(x, n); }
 
 CALLS_OF(c)
 CALLS_OF(rust)
@@ -77,28 +84,29 @@ static const struct {
     const char *name;
     call *calls[CALLS];
 } implementations[IMPLEMENTATIONS] = {
-    {"proved", {proved_border, proved_prefix, proved_cover, proved_enhanced, proved_window, proved_pattern}},
-    {"c", {plain_c_border, plain_c_prefix, plain_c_cover, plain_c_enhanced, plain_c_window}},
-    {"rust", {plain_rust_border, plain_rust_prefix, plain_rust_cover, plain_rust_enhanced, plain_rust_window}},
+    {"proved", {proved_border, proved_prefix, proved_cover, proved_enhanced, proved_window, proved_pattern, proved_ceiling}},
+    {"c", {plain_c_border, plain_c_prefix, plain_c_cover, plain_c_enhanced, plain_c_window, NULL, plain_c_ceiling}},
+    {"rust", {plain_rust_border, plain_rust_prefix, plain_rust_cover, plain_rust_enhanced, plain_rust_window, NULL, plain_rust_ceiling}},
 };
 
 static const struct {
     const char *name;
-    int first, last, has_total, last_row; /* the columns that it writes, and whether only their last row */
-} calls[CALLS] = {{"border", 0, 0, 0, 0}, {"prefix", 1, 1, 0, 0}, {"cover", 2, 2, 0, 0},
-                  {"enhanced", 3, 4, 1, 0}, {"window", 0, 4, 1, 0}, {"pattern", 3, 3, 0, 1}};
+    int first, last, has_total, last_row, has_ceiling; /* the columns that it writes, whether only their last row, and what else */
+} calls[CALLS] = {{"border", 0, 0, 0, 0, 0}, {"prefix", 1, 1, 0, 0, 0},  {"cover", 2, 2, 0, 0, 0},   {"enhanced", 3, 4, 1, 0, 0},
+                  {"window", 0, 4, 1, 0, 0}, {"pattern", 3, 3, 0, 1, 0}, {"ceiling", 0, -1, 0, 0, 1}};
 
 /* What is done with each call on each log. */
 typedef void visit(const char *name, int implementation, int which, const uint8_t *x, size_t n);
 
-/* The plain C's window sets the standard for all that the call writes. */
+/* The plain C's window and ceiling set the standard for all that the call writes. */
 static void check(const char *name, int implementation, int which, const uint8_t *x, size_t n)
 {
     static tables wanted, made;
     plain_c_window(x, n, &wanted);
+    plain_c_ceiling(x, n, &wanted);
     memset(&made, 0xff, sizeof made);
     implementations[implementation].calls[which](x, n, &made);
-    int same = !calls[which].has_total || made.total == wanted.total;
+    int same = (!calls[which].has_total || made.total == wanted.total) && (!calls[which].has_ceiling || made.ceiling == wanted.ceiling);
     size_t from = calls[which].last_row ? n - 1 : 0;
     for (int c = calls[which].first; c <= calls[which].last; c++)
         same = same && memcmp(made.column[c] + from, wanted.column[c] + from, (n - from) * sizeof **made.column) == 0;

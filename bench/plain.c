@@ -135,3 +135,14 @@ uint32_t c_all(const uint8_t *x, size_t n, uint16_t *border, uint16_t *prefix, u
     cover_of(border, n, cover);
     return enhanced_of(border, cover, n, best, count);
 }
+
+uint32_t c_ceiling(const uint8_t *x, size_t n)
+{
+    uint32_t ceiling = 0;
+    for (size_t p = 0; p < n; p++)
+        ceiling += x[p] == 20;
+    for (size_t p = n < 60 ? 0 : n - 60; p < n; p++)
+        if (x[p] != 20)
+            return ceiling;
+    return ceiling + HELD;
+}

@@ -131,3 +131,11 @@ pub unsafe extern "C" fn rust_all(
     cover_of(border, cover);
     enhanced_of(border, cover, lent_mut(best, n), lent_mut(count, n))
 }
+
+#[no_mangle]
+pub unsafe extern "C" fn rust_ceiling(x: *const u8, n: usize) -> u32 {
+    let x = lent(x, n);
+    let ceiling = x.iter().filter(|&&reading| reading == 20).count() as u32;
+    let held = x[n.saturating_sub(60)..].iter().all(|&reading| reading == 20);
+    ceiling + if held { 65536 } else { 0 }
+}

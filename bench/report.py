@@ -42,12 +42,11 @@ def table(kinds, sizes, cell):
     return "\n".join(lines)
 
 
-def pattern_table(counts):
-    """The best pattern's cost in enhanced tables: a row for each kind of log, a column for each n."""
+def table_of_one(counts, cell):
+    """One call: a row for each kind of log, a column for each n."""
     lines = ["| log | " + " | ".join(f"{n:,}" for n in counts.sizes) + " |", "|---|" + "---:|" * len(counts.sizes)]
     for kind in counts.kinds:
-        ratios = [counts("proved", "pattern", kind, n) / counts("proved", "enhanced", kind, n) for n in counts.sizes]
-        lines.append(f"| {kind} | " + " | ".join(f"{ratio:.2f}" for ratio in ratios) + " |")
+        lines.append(f"| {kind} | " + " | ".join(cell(kind, n) for n in counts.sizes) + " |")
     return "\n".join(lines)
 
 
@@ -65,6 +64,12 @@ def markdown(counts, times, stack, built, plot):
     def plain(call, kind, n):
         return f"{counts('c', call, kind, n):.1f} / {counts('rust', call, kind, n):.1f}"
 
+    def pattern(kind, n):
+        return f"{counts('proved', 'pattern', kind, n) / counts('proved', 'enhanced', kind, n):.2f}"
+
+    def ceiling(kind, n):
+        return f"{proved('ceiling', kind, n)} {counts('rust', 'ceiling', kind, n):.1f}"
+
     def time(call, kind, n):
         return " / ".join(f"{times(who, call, kind, n):.1f}" for who in ("proved", "c", "rust"))
 
@@ -81,7 +86,11 @@ Instructions a reading of plain C / plain Rust:
 
 Instructions of `best_pattern`, in those of `enhanced_table` on the same log, by its length:
 
-{pattern_table(counts)}
+{table_of_one(counts, pattern)}
+
+Instructions a reading of `ceiling`, by the log's length; in brackets, how many times those of plain C; then those of plain Rust:
+
+{table_of_one(counts, ceiling)}
 
 Nanoseconds a reading, the median of many calls: proved / plain C / plain Rust:
 

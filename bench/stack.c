@@ -26,6 +26,7 @@ static void cover_list(void) { finder_cover_list(x, FINDER_LONGEST, t[0], FINDER
 static void cover_test(void) { finder_cover_test(x, FINDER_LONGEST, FINDER_LONGEST, 64); }
 static void weighed_list(void) { finder_weighed_list(x, FINDER_LONGEST, FINDER_LONGEST); }
 static void best_pattern(void) { finder_best_pattern(x, FINDER_LONGEST); }
+static void ceiling(void) { finder_ceiling(x, FINDER_LONGEST); }
 static void window(void)
 {
     finder_window(x, FINDER_LONGEST, 0, FINDER_LONGEST, t[0], FINDER_LONGEST, t[1], FINDER_LONGEST, t[2], FINDER_LONGEST, t[3],
@@ -59,7 +60,8 @@ int main(void)
     static const struct { const char *name; void (*call)(void); } calls[] = {
         {"border_table", border_table}, {"prefix_table", prefix_table}, {"cover_table", cover_table},
         {"enhanced_table", enhanced_table}, {"window", window}, {"normal_form", normal_form}, {"breakdown", breakdown},
-        {"cover_list", cover_list}, {"cover_test", cover_test}, {"weighed_list", weighed_list}, {"best_pattern", best_pattern}};
+        {"cover_list", cover_list}, {"cover_test", cover_test}, {"weighed_list", weighed_list}, {"best_pattern", best_pattern},
+        {"ceiling", ceiling}};
     size_t idle = worn_by(nothing);
     make_log(KINDS - 1, x, FINDER_LONGEST);
     for (size_t k = 0; k < sizeof calls / sizeof *calls; k++)

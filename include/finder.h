@@ -25,6 +25,10 @@ extern "C" {
 /* The most readings that a log may have. */
 #define FINDER_LONGEST 4096
 
+/* The symbol of a reading at the ceiling, and how many of the last readings say whether a head is held there. */
+#define FINDER_CEILING 20
+#define FINDER_RECENT 60
+
 /* The places of a weighed list and of a breakdown: enough for every log. */
 #define FINDER_WEIGHED_PLACES 12
 #define FINDER_BREAKDOWN_PLACES 13
@@ -86,6 +90,13 @@ typedef struct {
     uint8_t number;
     uint8_t covers;
 } finder_covers;
+
+/* held: 1 where the head is held at the ceiling now, else 0. ceiling: how many readings are at the ceiling. */
+typedef struct {
+    uint8_t number;
+    uint8_t held;
+    uint16_t ceiling;
+} finder_held;
 
 /* A part of the caller's own bytes: `len` of them after the first `start`. */
 typedef struct {
@@ -174,6 +185,13 @@ finder_weighed finder_weighed_list(const uint8_t *x, size_t n, size_t i);
 finder_span finder_best_pattern(const uint8_t *x, size_t n);
 
 /*
+ * How the log stands to the ceiling. `held` is 1 if the last FINDER_RECENT readings are all FINDER_CEILING, or, where the log has
+ * fewer, if every reading is; else 0. `ceiling` is how many readings of the whole log are. Any other byte is another reading.
+ * Refuses: EMPTY; LONG.
+ */
+finder_held finder_ceiling(const uint8_t *x, size_t n);
+
+/*
  * The plant's file of len bytes: version 1, n in two bytes, the greater first, then n symbols of 0 to 20. Answers the part
  * that holds the symbols: `start` is 3, `len` is n.
  * Refuses: FILE where len < 3; VERSION; EMPTY and LONG by the two bytes; FILE where len is not 3 + n; SYMBOL.
@@ -201,6 +219,7 @@ FINDER_SIZE(finder_part, 8);
 FINDER_SIZE(finder_parts, 4 + 8 * FINDER_BREAKDOWN_PLACES);
 FINDER_SIZE(finder_weighed, 6 + 2 * FINDER_WEIGHED_PLACES);
 FINDER_SIZE(finder_covers, 2);
+FINDER_SIZE(finder_held, 4);
 FINDER_SIZE(finder_span, 24);
 
 #undef FINDER_SIZE

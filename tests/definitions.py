@@ -6,6 +6,7 @@ from functools import cache
 
 LONGEST = 4096
 CEILING = 20
+RECENT = 60
 
 
 def occurrences(x, q, i):
@@ -91,6 +92,16 @@ def total(x):
     return sum(len(weighed(x, i)) for i in range(1, len(x) + 1))
 
 
+def ceiling(x):
+    return sum(symbol == CEILING for symbol in x)
+
+
+def held(x):
+    """1 if there are at least sixty readings and the last sixty are all at the ceiling, or fewer and every one is; else 0."""
+    last = x[-RECENT:] if len(x) >= RECENT else x
+    return int(all(symbol == CEILING for symbol in last))
+
+
 def column(row, x):
     return [row(x, i) for i in range(1, len(x) + 1)]
 
@@ -129,8 +140,8 @@ def report(f):
         line("covers", cover_list(x)),
         line("best", best_and_count(x, n)),
         line("weighed", weighed(x, n)),
-        line("ceiling", [x.count(CEILING)]),
-        line("held", [int(all(symbol == CEILING for symbol in x))]),
+        line("ceiling", [ceiling(x)]),
+        line("held", [held(x)]),
     ])
 
 

@@ -38,12 +38,18 @@ def files():
     yield "one_more", whole + b"\x04"
     for value in range(21, 256):
         yield f"symbol_{value}", with_symbol(value)
-    for n in range(1, 6):
+    for n in [1, 2, 3, 4, 5, 59, 60]:
         yield f"held_{n}", plant_file(bytes([20] * n))
+    for n in [0, 59, 60]:
+        yield f"other_then_{n}", plant_file(bytes([4] + [20] * n))
+    for n in [59, 60]:
+        yield f"held_{n}_then_other", plant_file(bytes([20] * n + [4]))
     yield "field_0", plant_file(b"")
     yield "field_0_and_symbols", plant_file(LOG, field=0)
     yield "field_4096", plant_file(marked(LONGEST))
     yield "field_4096_held", plant_file(bytes([20] * LONGEST))
+    for n in [59, 60]:
+        yield f"field_4096_ends_{n}", plant_file(marked(LONGEST - n) + bytes([20] * n))
     yield "field_4096_one_less", plant_file(marked(LONGEST - 1), field=LONGEST)
     yield "field_4096_one_more", plant_file(marked(LONGEST + 1), field=LONGEST)
     yield "field_4097", plant_file(marked(LONGEST + 1))

@@ -18,6 +18,18 @@ STRINGS = {
     "P8": "ababaabaababa" + "ba" + "ababaabaababa",
 }
 
+# Logs at the edges of held.
+EDGES = {
+    "no reading": b"",
+    "1 at the ceiling": bytes([20]),
+    "1 other": bytes([4]),
+    "59 at the ceiling": bytes([20] * 59),
+    "60 at the ceiling": bytes([20] * 60),
+    "1 other and then 59": bytes([4] + [20] * 59),
+    "1 other and then 60": bytes([4] + [20] * 60),
+    "60 and then 1 other": bytes([20] * 60 + [4]),
+}
+
 # The lines that the table prints, by hand. Those of a window are the rows that it writes.
 KNOWN = {
     "P1": ["border 0", "prefix 1", "cover 0", "best 0", "count 0", "normal 1 0 1", "covers 1"],
@@ -37,6 +49,14 @@ KNOWN = {
     "window 5 5": ["border 0 0 1 2 3", "cover 0 0 0 2 3", "best 0 0 1 2 3", "count 0 0 2 4 5"],
     "window 5 6": ["number 3"],
     "window 10 0": ["number 3"],
+    "no reading": ["ceiling 1 0 0"],
+    "1 at the ceiling": ["ceiling 0 1 1"],
+    "1 other": ["ceiling 0 0 0"],
+    "59 at the ceiling": ["ceiling 0 1 59"],
+    "60 at the ceiling": ["ceiling 0 1 60"],
+    "1 other and then 59": ["ceiling 0 0 59"],
+    "1 other and then 60": ["ceiling 0 1 60"],
+    "60 and then 1 other": ["ceiling 0 0 60"],
 }
 
 COLUMNS = [("border", by.border), ("prefix", by.prefix), ("cover", by.cover), ("best", by.best), ("count", by.count)]
@@ -47,6 +67,11 @@ ROOM, FILLER = 12, 77
 def cover_test(x, q):
     """1 or 0; ten and the number where the test is refused."""
     return int(by.covers(x, len(x), q)) if 1 <= q <= len(x) else 10 + 3
+
+
+def ceiling_line(x):
+    """The number, held and the ceiling."""
+    return by.line("ceiling", [0, by.held(x), by.ceiling(x)] if x else [1, 0, 0])
 
 
 def string_lines(x):
@@ -62,6 +87,7 @@ def string_lines(x):
         by.line("weighed", by.weighed(x, n)),
         by.line("limit", [by.limit(n)]),
         f"pattern {pattern}\n" if pattern else by.line("pattern refused", [5]),
+        ceiling_line(x.encode()),
     ]
 
 
@@ -95,6 +121,10 @@ def main(crate):
         lines = window_lines(STRINGS["P6"], a, m)
         check(f"window {a} {m}", lines)
         said += [by.line("window", [a, m]), *lines]
+    for name, x in EDGES.items():
+        lines = [ceiling_line(x)]
+        check(name, lines)
+        said += [f"{name}\n", *lines]
     (crate / "stdout").write_text("".join(said))
 
 

@@ -113,6 +113,15 @@ static finder_part normal(const uint8_t *x, size_t i)
     return r;
 }
 
+/* The last readings that are at the ceiling without a break. */
+static size_t last_run(const uint8_t *x, size_t n)
+{
+    size_t run = 0;
+    while (run < n && x[n - 1 - run] == 20)
+        run++;
+    return run;
+}
+
 /* The refusals. */
 
 static unsigned log_no(size_t n)
@@ -293,6 +302,18 @@ static void check_best_pattern(const uint8_t *x, size_t n)
     CHECK(s.start == 0 && s.len == best);
 }
 
+static void check_ceiling(const uint8_t *x, size_t n)
+{
+    unsigned no = log_no(n), ceiling = 0;
+    for (size_t p = 0; p < n && !no; p++)
+        ceiling += x[p] == 20;
+    judged = x;
+    judged_len = n;
+    finder_held h = finder_ceiling(x, n);
+    CHECK(h.number == no && h.ceiling == ceiling);
+    CHECK(h.held == (!no && (last_run(x, n) >= 60 || last_run(x, n) == n)));
+}
+
 static void check_file(const uint8_t *f, size_t len)
 {
     unsigned no = file_no(f, len);
@@ -314,6 +335,7 @@ static void check_log(const uint8_t *x, size_t n)
     }
     check_breakdown(x, n);
     check_best_pattern(x, n);
+    check_ceiling(x, n);
     for (size_t i = 0; i <= n + 1; i++) {
         check_prefix(x, n, i);
         check_cover_test(x, n, i, below(n + 1));
@@ -374,8 +396,42 @@ static void lengths(void)
         check_cover_list(x, n, n);
         check_breakdown(x, n);
         check_best_pattern(x, n);
+        check_ceiling(x, n);
         check_prefix(x, n, n);
         check_cover_test(x, n, n, 1);
+    }
+}
+
+/* At the ceiling but for one reading of any value, wherever it stands; the log ends where its memory does. */
+static void ceilings(void)
+{
+    for (size_t n = 1; n <= 125; n++) {
+        uint8_t *x = malloc(n);
+        memset(x, 20, n);
+        check_ceiling(x, n);
+        for (size_t p = 0; p < n; p++) {
+            for (int value = 0; value < 256; value++) {
+                x[p] = (uint8_t)value;
+                check_ceiling(x, n);
+            }
+            x[p] = 20;
+        }
+        free(x);
+    }
+}
+
+/* 59 and 60 at the ceiling; another before 59 and before 60; another after 60; one reading alone. */
+static void edges(void)
+{
+    static const struct { size_t before, run, after, held; } edge[] = {{0, 59, 0, 1}, {0, 60, 0, 1}, {1, 59, 0, 0}, {1, 60, 0, 1},
+                                                                       {0, 60, 1, 0}, {0, 1, 0, 1},  {1, 0, 0, 0}};
+    for (size_t k = 0; k < sizeof edge / sizeof *edge; k++) {
+        uint8_t x[61] = {4};
+        size_t n = edge[k].before + edge[k].run + edge[k].after;
+        memset(x + edge[k].before, 20, edge[k].run);
+        x[n - 1] = edge[k].after ? 4 : x[n - 1];
+        finder_held h = finder_ceiling(x, n);
+        CHECK(h.number == 0 && h.held == edge[k].held && h.ceiling == edge[k].run);
     }
 }
 
@@ -404,6 +460,8 @@ int main(void)
     small_logs(3, 6);
     longer_logs();
     lengths();
+    ceilings();
+    edges();
     files();
     puts("c tests: every call agrees with its definition");
     return 0;

@@ -1,5 +1,5 @@
 //! The C face, as include/finder.h declares it.
-use crate::{Breakdown, Normal, Refusal, Weighed};
+use crate::{Breakdown, Ceiling, Normal, Refusal, Weighed};
 
 /// Every answer begins with its number. All values are plain integers, so that any answer is a valid one.
 #[repr(C)]
@@ -22,6 +22,20 @@ pub struct Written {
 impl Written {
     pub fn accepted(self) -> Result<(), Refusal> {
         accepted(self.number)
+    }
+}
+
+/// Not an [`Answer`], which would leave a byte free after the number.
+#[repr(C)]
+pub struct Held {
+    number: u8,
+    held: u8,
+    ceiling: u16,
+}
+
+impl Held {
+    pub fn accepted(self) -> Result<Ceiling, Refusal> {
+        accepted(self.number).map(|()| Ceiling { held: self.held != 0, ceiling: self.ceiling })
     }
 }
 
@@ -76,5 +90,6 @@ extern "C" {
     pub fn finder_cover_test(x: *const u8, n: usize, i: usize, q: usize) -> Answer<u8>;
     pub fn finder_weighed_list(x: *const u8, n: usize, i: usize) -> Answer<Weighed>;
     pub fn finder_best_pattern(x: *const u8, n: usize) -> Answer<Span>;
+    pub fn finder_ceiling(x: *const u8, n: usize) -> Held;
     pub fn finder_file(f: *const u8, len: usize) -> Answer<Span>;
 }

@@ -23,6 +23,10 @@ use std::{error, fmt};
 
 /// The most readings that a log may have.
 pub const LONGEST: usize = 4096;
+/// The symbol of a reading at the ceiling.
+pub const CEILING: u8 = 20;
+/// How many of the last readings say whether a head is held at the ceiling.
+pub const RECENT: usize = 60;
 /// The places of a weighed list.
 pub const WEIGHED_PLACES: usize = 12;
 /// The places of a breakdown.
@@ -120,6 +124,15 @@ impl Weighed {
     pub fn lens(&self) -> &[u16] {
         &self.places[..self.used.into()]
     }
+}
+
+/// How a log stands to the ceiling.
+#[derive(Clone, Copy, Debug, PartialEq, Eq)]
+pub struct Ceiling {
+    /// The head is held at the ceiling now.
+    pub held: bool,
+    /// How many readings are at the ceiling.
+    pub ceiling: u16,
 }
 
 /// The five tables that a window writes to.
@@ -314,6 +327,22 @@ pub fn best_pattern(log: &[u8]) -> Result<&[u8], Refusal> {
     // SAFETY: the pair is a live slice's.
     let span = unsafe { face::finder_best_pattern(log.as_ptr(), log.len()) }.accepted()?;
     Ok(part(log, span))
+}
+
+/// How the log stands to the ceiling. It is held if the last [`RECENT`] readings are all [`CEILING`], or, where there are fewer, if
+/// every reading is. Any other byte is another reading. Refuses: `Empty`, `Long`.
+///
+/// ```
+/// let mut log = [20; 90];
+/// log[..30].fill(4);
+/// assert_eq!(finder::ceiling(&log)?, finder::Ceiling { held: true, ceiling: 60 });
+/// log[89] = 19;
+/// assert_eq!(finder::ceiling(&log)?, finder::Ceiling { held: false, ceiling: 59 });
+/// # Ok::<(), finder::Refusal>(())
+/// ```
+pub fn ceiling(log: &[u8]) -> Result<Ceiling, Refusal> {
+    // SAFETY: the pair is a live slice's.
+    unsafe { face::finder_ceiling(log.as_ptr(), log.len()) }.accepted()
 }
 
 /// The symbols of a plant's file, as a part of it: the file is version 1, their number in two bytes, the greater first, then the

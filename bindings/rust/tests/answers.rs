@@ -40,6 +40,7 @@ fn check_log(log: &[u8]) {
     let shelf = log.repeat(3);
     let log = &shelf[n..2 * n];
     assert_eq!(finder::breakdown(log), Ok(reference::breakdown(log)));
+    assert_eq!(finder::ceiling(log), Ok(reference::ceiling(log)));
     check_cover_list(log, &reference::cover_list(log), &mut Chance::new(n as u64));
     check_best_pattern(log, reference::enhanced(log, n).0);
     for i in 0..=n + 1 {
@@ -63,6 +64,7 @@ fn longer_logs() {
 fn longest_logs() {
     for log in [logs::fibonacci(LONGEST), logs::random(2, LONGEST, &mut Chance::new(5)), vec![20; LONGEST]] {
         assert_eq!(finder::breakdown(&log), Ok(reference::breakdown(&log)));
+        assert_eq!(finder::ceiling(&log), Ok(reference::ceiling(&log)));
         check_best_pattern(&log, reference::enhanced(&log, LONGEST).0);
         [0, 1, 2, 2047, 2048, LONGEST, LONGEST + 1, usize::MAX].iter().for_each(|&i| check_prefix(&log, i));
         for (i, q) in [(LONGEST, 1), (LONGEST, LONGEST), (LONGEST + 1, 1), (LONGEST, LONGEST + 1), (usize::MAX, usize::MAX)] {
@@ -72,12 +74,29 @@ fn longest_logs() {
     check_cover_list(&[20; LONGEST], &(1..=LONGEST as u16).collect::<Vec<_>>(), &mut Chance::new(6));
 }
 
+/// At the ceiling but for one reading of any value, wherever it stands. Readings at the ceiling lie before and after the log.
+#[test]
+fn logs_about_the_ceiling() {
+    let mut shelf = [20; 3 * 125];
+    for n in 1..=125 {
+        for place in 125..125 + n {
+            for value in 0..=255 {
+                shelf[place] = value;
+                let log = &shelf[125..125 + n];
+                assert_eq!(finder::ceiling(log), Ok(reference::ceiling(log)));
+            }
+            shelf[place] = 20;
+        }
+    }
+}
+
 #[test]
 fn logs_that_are_refused() {
     for n in [0, LONGEST + 1, 2 * LONGEST] {
         let log = vec![20; n];
         let refusal = reference::judge_log(n).unwrap_err();
         assert_eq!(finder::breakdown(&log), Err(refusal));
+        assert_eq!(finder::ceiling(&log), Err(refusal));
         check_best_pattern(&log, 0);
         check_cover_list(&log, &[], &mut Chance::new(8));
         for i in [0, 1, n, n + 1] {

@@ -1,5 +1,5 @@
 //! Logs whose results are known from elsewhere. They hold the definitions of the other tests in place.
-use finder::{Refusal, Tables};
+use finder::{Ceiling, Refusal, Tables};
 
 struct Row {
     log: &'static [u8],
@@ -79,4 +79,15 @@ fn lists() {
         assert!(finder::breakdown(log).unwrap().parts().iter().map(|part| part.len).eq(lens.iter().copied()));
     }
     assert_eq!(finder::best_pattern(b"ab"), Err(Refusal::None));
+}
+
+/// So many others, so many at the ceiling, so many others; and whether the head is held.
+#[test]
+fn edges_of_held() {
+    let edges = [(0, 59, 0, true), (0, 60, 0, true), (1, 59, 0, false), (1, 60, 0, true), (0, 60, 1, false), (0, 1, 0, true), (1, 0, 0, false)];
+    for (before, run, after, held) in edges {
+        let log = [vec![4; before], vec![20; run], vec![4; after]].concat();
+        assert_eq!(finder::ceiling(&log), Ok(Ceiling { held, ceiling: run as u16 }));
+    }
+    assert_eq!(finder::ceiling(&[]), Err(Refusal::Empty));
 }

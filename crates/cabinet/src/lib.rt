@@ -3,6 +3,7 @@ ghost use mathlib.Core.Path.{_≡_};
 ghost use mathlib.Core.List.{[], _∷_};
 ghost use Rattle.words.specs.Tables.{borderRow, prefixRow, coverRow};
 ghost use Rattle.words.specs.Answers as Answers;
+ghost use Rattle.ceilings.specs.Ceilings.{ceilingAnswer};
 ghost use Rattle.cabinet.specs.Faces.{coversOf, patternSpan, fileSpan};
 
 // The cover test: covers is 1 for yes and 0 for no, and 0 where the call is refused.
@@ -127,6 +128,13 @@ pub extern "C" fn finder_best_pattern(x: &[u8]) -> Span
         start: 0,
         len: p.len,
     }
+}
+
+#[no_mangle]
+pub extern "C" fn finder_ceiling(x: &[u8]) -> ceilings::Ceiling
+    ensures { λ r. ⌜ r ≡ ceilingAnswer (now (x .entry)) ⌝ }
+{
+    finder::ceiling(x)
 }
 
 #[no_mangle]

@@ -39,7 +39,7 @@ path{fill:none;stroke:none}
 <text class='title' x='40' y='54' xml:space='preserve'>CO<tspan class='sub' dy='8'>2</tspan><tspan dy='-8'> log: ",
         n,
     );
-    let p = strokes::readings(out, p, n);
+    let p = wording::readings(out, p, n);
     say(
         out,
         p,
@@ -88,13 +88,13 @@ fn line(out: &mut [u8], pen: Pen, x: &[u8]) -> Pen
 // What is at the ceiling, in red.
 fn stuck(out: &mut [u8], pen: Pen, x: &[u8]) -> Pen {
     let p = say(out, pen, b"<path class='stuck' d='");
-    let p = strokes::enclose_runs(out, p, x, logfile::CEILING, 0, 33000);
+    let p = strokes::enclose_runs(out, p, x, words::CEILING, 0, 33000);
     let p = say(
         out,
         p,
         b"'/>\n<path class='ceiling' d='M0 3000H100000'/>\n<path class='held' d='",
     );
-    let p = strokes::enclose_runs(out, p, x, logfile::CEILING, 2600, 3400);
+    let p = strokes::enclose_runs(out, p, x, words::CEILING, 2600, 3400);
     say(out, p, b"'/>\n")
 }
 

@@ -1,28 +1,25 @@
 -- Lines put one behind the other, and the lists that they are cut from. Assumes nothing.
-use mathlib.Core.Bool.{Bool, cond}
 use mathlib.Core.Path.{_≡_, refl, ap, _∙_}
 use mathlib.Core.List.{List, [], _∷_, _++_}
 use Prim.Native.Nat.{ℕ, _-_, _≤_}
 use native.Mathlib.Nat.{sub-zero}
 use native.Mathlib.Omega.{arith}
 use lib.Dec.{eqb}
-use lib.ListN.{length, getD, take, drop, length-append}
+use lib.ListN.{length, take, drop, length-append}
 use lib.Seq.{take-at}
-use mir.Syntax.{w16}
-use mir.Val.{Fits}
 use Rattle.words.specs.declared.Part.{Part}
 use Rattle.words.specs.declared.Weighed.{Weighed}
 use Rattle.words.specs.Words as W
 use Rattle.words.specs.Refusals.{longest}
 use Rattle.words.specs.Answers.{weighedPlaces, places, listed}
-use Rattle.words.specs.PlantFile as F
-use Rattle.words.proofs.Search.{howMany-le}
 use Rattle.words.proofs.Places.{length-places}
 use Rattle.words.proofs.Refusals.{Judged}
 use Rattle.words.proofs.CoverLists.{coverList-le}
 use Rattle.words.proofs.Weighs.{used-places}
 use Rattle.lines.specs.Text.{bytes, line, Put}
 use Rattle.lines.proofs.Texts.{put-put}
+use Rattle.ceilings.specs.declared.Ceiling.{Ceiling}
+use Rattle.ceilings.specs.Ceilings.{ceilingOf}
 use Rattle.summary.specs.declared.Summary.{Summary}
 use Rattle.summary.specs.Whole.{summaryOf}
 use Rattle.facts.specs.Report as R
@@ -44,10 +41,10 @@ module _ {a b c : List ℕ} {at e g : ℕ} where
   unfolding R.borderLines
   borders-put best count weighed p q = put-put p q
 
-  pub ceilings-put : (k : ℕ) (held : Bool) {v : ℕ} → v ≡ cond held 1 0 → Put a at (line (bytes "ceiling") (k ∷ [])) b e
-      → Put b e (line (bytes "held") (v ∷ [])) c g → Put a at (R.ceilingLines k held) c g
+  pub ceiling-put : (f : Ceiling) → Put a at (line (bytes "ceiling") (f .ceiling ∷ [])) b e → Put b e (line (bytes "held") (f .held ∷ [])) c g
+      → Put a at (R.ceilingLines f) c g
   unfolding R.ceilingLines
-  ceilings-put k held v p q = put-put p (rw v at q)
+  ceiling-put f p q = put-put p q
 
 -- ---- the lists of an accepted log
 
@@ -58,10 +55,6 @@ module _ (x : List ℕ) (j : Judged (length x)) where
   weighed-few : length (W.weighed eqb x (length x)) ≤ weighedPlaces
   unfolding W.used
   weighed-few = used-places x (length x) (j .some) (j .most)
-
-  pub ceiling-fits : {k : ℕ} → k ≡ F.ceiling x → Fits w16 k
-  unfolding F.ceiling
-  ceiling-fits e = omega (arith, howMany-le (λ p. eqb (getD x p 0) F.ceilingSymbol) (length x), j .most)
 
 -- the first u entries of a table, as the code cuts them
 abbrev part : List ℕ → ℕ → List ℕ
@@ -114,8 +107,8 @@ module _ {x : List ℕ} {s : Summary} {covers weighed text : List ℕ} (f : R.Fa
   pub told-weighed : length weighed ≤ weighedPlaces
   told-weighed = rw (f .weighs) (weighed-few x (f .judged))
 
-  pub told-says : {k : ℕ} {held : Bool} → k ≡ F.ceiling x → held ≡ F.held x → {a b c d : List ℕ} {e g r : ℕ}
-      → Put a 0 (R.shapeLines (length x) (s .normal) covers) b e → Put b e (R.borderLines (s .best) (s .count) weighed) c g → Put c g (R.ceilingLines k held) d r
+  pub told-says : {h : Ceiling} → h ≡ ceilingOf x → {a b c d : List ℕ} {e g r : ℕ}
+      → Put a 0 (R.shapeLines (length x) (s .normal) covers) b e → Put b e (R.borderLines (s .best) (s .count) weighed) c g → Put c g (R.ceilingLines h) d r
       → take r d ≡ R.reportText x
   unfolding R.reportText summaryOf
-  told-says k held p q t = rw (f .summed, f .covered, f .weighs, k, held) at (put-put (put-put p q) t .says)
+  told-says h p q t = rw (f .summed, f .covered, f .weighs, h) at (put-put (put-put p q) t .says)

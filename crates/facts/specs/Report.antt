@@ -1,5 +1,4 @@
 -- The text of the report. Assumes nothing.
-use mathlib.Core.Bool.{Bool, cond}
 use mathlib.Core.Path.{_≡_}
 use mathlib.Core.List.{List, [], _∷_, _++_}
 use Prim.Native.Nat.{ℕ, _+_, _*_, _≤_}
@@ -9,8 +8,9 @@ use Rattle.words.specs.declared.Part.{Part}
 use Rattle.words.specs.Words as W
 use Rattle.words.specs.Refusals.{longest}
 use Rattle.words.specs.Answers.{weighedPlaces}
-use Rattle.words.specs.PlantFile as F
 use Rattle.words.proofs.Refusals.{Judged}
+use Rattle.ceilings.specs.declared.Ceiling.{Ceiling}
+use Rattle.ceilings.specs.Ceilings.{ceilingOf}
 use Rattle.summary.specs.declared.Summary.{Summary}
 use Rattle.summary.specs.Whole.{summaryOf}
 use Rattle.lines.specs.Text.{bytes, fieldRoom, line}
@@ -26,8 +26,8 @@ shapeLines n f covers = line (bytes "log") (n ∷ []) ++ line (bytes "normal") (
 unfoldable pub borderLines : ℕ → ℕ → List ℕ → List ℕ
 borderLines best count weighed = line (bytes "best") (best ∷ count ∷ []) ++ line (bytes "weighed") weighed
 
-unfoldable pub ceilingLines : ℕ → Bool → List ℕ
-ceilingLines k held = line (bytes "ceiling") (k ∷ []) ++ line (bytes "held") (cond held 1 0 ∷ [])
+unfoldable pub ceilingLines : Ceiling → List ℕ
+ceilingLines c = line (bytes "ceiling") (c .ceiling ∷ []) ++ line (bytes "held") (c .held ∷ [])
 
 -- the text on the symbols x of an accepted file
 unfoldable pub reportText : List ℕ → List ℕ
@@ -35,7 +35,7 @@ reportText x =
     let n = length x in
     shapeLines n (W.normal eqb x n) (W.coverList eqb x)
     ++ borderLines (W.best eqb x n) (W.count eqb x n) (W.weighed eqb x n)
-    ++ ceilingLines (F.ceiling x) (F.held x)
+    ++ ceilingLines (ceilingOf x)
 
 -- the room of a line: a word of at most seven letters, k entries of a table, and the line's end
 abbrev pub lineRoom : ℕ → ℕ

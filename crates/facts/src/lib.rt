@@ -1,6 +1,4 @@
 // Floor 4: the report on an accepted log, as one text in a lent buffer.
-ghost use mathlib.Core.Path.{_≡_};
-ghost use mathlib.Core.Bool.{cond};
 ghost use Prim.Native.Nat.{_+_, _*_, _≤_};
 ghost use lib.ListN.{length};
 ghost use Rattle.words.specs.Refusals.{longest};
@@ -44,20 +42,14 @@ fn borders(best: u16, count: u16, weighed: &[u16], text: &mut [u8], at: usize) -
     lines::line(text, end, b"weighed", weighed)
 }
 
-// How many readings are at the ceiling, and whether all of them are.
-fn ceilings(ceiling: u16, held: bool, text: &mut [u8], at: usize) -> usize
+// How many readings are at the ceiling, and whether the head is held there now.
+fn ceiling(c: ceilings::Ceiling, text: &mut [u8], at: usize) -> usize
     requires { ⌜ at + 2 * Report.lineRoom weighedPlaces ≤ length (now text) ⌝ }
-    ensures put { λ r. ⌜ Put (now (text .entry)) at (Report.ceilingLines ceiling held) (now (text .exit)) r ⌝ }
+    ensures put { λ r. ⌜ Put (now (text .entry)) at (Report.ceilingLines c) (now (text .exit)) r ⌝ }
     ensures short { λ r. ⌜ r ≤ at + 2 * Report.lineRoom weighedPlaces ⌝ }
 {
-    let end = lines::line(text, at, b"ceiling", &[ceiling]);
-    lines::line(text, end, b"held", &[flag(held)])
-}
-
-fn flag(b: bool) -> u16
-    ensures { λ r. ⌜ r ≡ cond b 1 0 ⌝ }
-{
-    if b { 1 } else { 0 }
+    let end = lines::line(text, at, b"ceiling", &[c.ceiling]);
+    lines::line(text, end, b"held", &[c.held as u16])
 }
 
 // All of them, in this order.
@@ -65,12 +57,10 @@ fn told(x: &[u8], s: summary::Summary, covers: &[u16], weighed: &[u16], text: &m
     requires { ⌜ Report.Facts (now x) s (now covers) (now weighed) (now text) ⌝ }
     ensures { λ r. ⌜ Says (now (text .exit)) r (Report.reportText (now (x .entry))) ⌝ }
 {
-    let ceiling = logfile::ceiling(x);
-    let held = logfile::held(x);
     let normal = s.normal;
     let shaped = shape(x.len() as u16, normal, covers, text);
     let bordered = borders(s.best, s.count, weighed, text, shaped);
-    ceilings(ceiling as u16, held, text, bordered)
+    ceiling(ceilings::of(x), text, bordered)
 }
 
 // The text of the report on an accepted log.

@@ -13,6 +13,8 @@ use Rattle.words.specs.declared.CoverTest.{CoverTest}
 use Rattle.words.specs.Tables.{Column}
 use Rattle.words.specs.Answers as A
 use Rattle.words.proofs.Refusals.{unique}
+use Rattle.ceilings.specs.declared.Ceiling.{Ceiling}
+use Rattle.ceilings.specs.Ceilings.{ceilingAnswer}
 
 -- with tables: the answer and every table afterwards. border_table, prefix_table and cover_table, with their columns
 pub one-table : (f : Column) (x t : List ℕ) {o o′ : A.Outcome Written} → o ≡ A.tableOutcome f x t → o′ ≡ A.tableOutcome f x t → o ≡ o′
@@ -28,7 +30,7 @@ one-window x a m b p c e k = unique
 pub one-list : (x t : List ℕ) {o o′ : A.Outcome Listed} → o ≡ A.coverListOutcome x t → o′ ≡ A.coverListOutcome x t → o ≡ o′
 one-list x t = unique
 
--- without: normal_form, weighed_list, cover_test, breakdown, pattern
+-- without: normal_form, weighed_list, cover_test, breakdown, pattern, ceiling
 pub one-normal : (x : List ℕ) (i : ℕ) {r r′ : Normal} → r ≡ A.normalAnswer x i → r′ ≡ A.normalAnswer x i → r ≡ r′
 one-normal x i = unique
 
@@ -43,6 +45,9 @@ one-breakdown x = unique
 
 pub one-length : (x : List ℕ) {r r′ : Pattern} → r ≡ A.patternAnswer x → r′ ≡ A.patternAnswer x → r ≡ r′
 one-length x = unique
+
+pub one-ceiling : (x : List ℕ) {r r′ : Ceiling} → r ≡ ceilingAnswer x → r′ ≡ ceilingAnswer x → r ≡ r′
+one-ceiling x = unique
 
 -- best_pattern and best_pattern_number: the part's readings and its place, and the number
 pub one-pattern : (x : List ℕ) (at : ℕ × ℕ) {p p′ : List ℕ} {l l′ : ℕ × ℕ} {k k′ : ℕ}

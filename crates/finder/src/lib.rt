@@ -4,6 +4,7 @@ ghost use mathlib.Core.List.{[], _∷_};
 ghost use denote.Ref.{ptr};
 ghost use Rattle.words.specs.Tables.{borderRow, prefixRow, coverRow};
 ghost use Rattle.words.specs.Answers as Answers;
+ghost use Rattle.ceilings.specs.Ceilings.{ceilingAnswer};
 
 // ---- tables
 
@@ -188,6 +189,21 @@ pub fn best_pattern(x: &[u8]) -> &[u8]
     let p = pattern(x);
     let b = p.len;
     &x[0..b]
+}
+
+// How many readings of x are at the ceiling, and whether the head is held there now.
+pub fn ceiling(x: &[u8]) -> ceilings::Ceiling
+    ensures { λ r. ⌜ r ≡ ceilingAnswer (now (x .entry)) ⌝ }
+{
+    let no = refusals::log(x.len());
+    if no != 0 {
+        return ceilings::Ceiling {
+            number: no,
+            held: 0,
+            ceiling: 0,
+        };
+    }
+    ceilings::of(x)
 }
 
 // ---- a window

@@ -1,5 +1,5 @@
--- The strings with known results, P1 to P8, as one table: for each string what is asked of it, and the result. Assumes nothing.
-use mathlib.Core.List.{List, [], _∷_, map}
+-- The strings with known results, P1 to P8, and logs at the edges of held, as one table: for each log what is asked of it, and the result. Assumes nothing.
+use mathlib.Core.List.{List, [], _∷_, _++_, map}
 use Prim.Native.Nat.{ℕ}
 use Prim.Native.String.{String}
 use Prim.Native.Char.{code}
@@ -10,11 +10,14 @@ use Rattle.words.specs.declared.Weighing.{Weighing}
 use Rattle.words.specs.Words as W
 use Rattle.words.specs.Tables as T
 use Rattle.words.specs.Answers as A
+use Rattle.words.specs.PlantFile.{ceilingSymbol}
+use Rattle.ceilings.specs.Ceilings as C
 
--- What may be asked of a string. `weighed i` and `limit i`: at i. `window a m k`: the table after the first k, of twelve entries 77, after that window;
--- `windowRefused a m`: the number of a refused window, in tables of twelve entries; `bestRefused`: the number of the best pattern
+-- What may be asked of a log. `weighed i` and `limit i`: at i. `window a m k`: the table after the first k, of twelve entries 77, after that window;
+-- `windowRefused a m`: the number of a refused window, in tables of twelve entries; `bestRefused`: the number of the best pattern;
+-- `ceiling`: the call's number, held and the ceiling
 pub data Asked : Type 0 where
-  border prefix cover best count normal covers breakdown bestRefused : Asked
+  border prefix cover best count normal covers breakdown bestRefused ceiling : Asked
   weighed limit : ℕ → Asked
   windowRefused : ℕ → ℕ → Asked
   window : ℕ → ℕ → ℕ → Asked
@@ -23,14 +26,18 @@ infix 3 _gives_
 pub data Claim : Type 0 where
   _gives_ : Asked → List ℕ → Claim
 
--- a row: its mark, the string, what is claimed
+-- a row: its mark, the log, what is claimed
 pub data Row : Type 0 where
-  row : String → String → List Claim → Row
+  row : String → List ℕ → List Claim → Row
 
 -- a text's characters, as numbers
 unfoldable pub bytes : String → List ℕ
 bytes String.[] = []
 bytes (String._∷_ c s) = code c ∷ bytes s
+
+-- so many readings at the ceiling
+abbrev pub top : ℕ → List ℕ
+top n = replicate n ceilingSymbol
 
 -- what a window with five tables of twelve entries leaves
 abbrev pub twelve : List ℕ
@@ -49,6 +56,7 @@ answer x normal = let f = A.normalAnswer x (length x) in f .k1 ∷ f .k2 ∷ f .
 answer x covers = W.coverList eqb x
 answer x breakdown = let b = A.breakdownAnswer x in take (b .used) (map (λ p. p .len) (b .parts))
 answer x bestRefused = A.bestPatternNo x ∷ []
+answer x ceiling = let c = C.ceilingAnswer x in c .number ∷ c .held ∷ c .ceiling ∷ []
 answer x (weighed i) = W.weighed eqb x i
 answer x (limit i) = W.limit i ∷ []
 answer x (windowRefused a m) = windowed x a m .answer .number ∷ []
@@ -62,11 +70,11 @@ unfoldable pub said : Claim → List ℕ
 said (t gives r) = r
 
 unfoldable pub Right : Row → Type 0
-Right (row p s cs) = map (λ c. answer (bytes s) (asked c)) cs ≡ map said cs
+Right (row p x cs) = map (λ c. answer x (asked c)) cs ≡ map said cs
 
 unfoldable pub rows : List Row
 rows =
-    row "P1" "a"
+    row "P1" (bytes "a")
     ((border gives 0 ∷ [])
     ∷ (prefix gives 1 ∷ [])
     ∷ (cover gives 0 ∷ [])
@@ -75,7 +83,7 @@ rows =
     ∷ (normal gives 1 ∷ 0 ∷ 1 ∷ [])
     ∷ (covers gives 1 ∷ [])
     ∷ [])
-    ∷ row "P2" "aa"
+    ∷ row "P2" (bytes "aa")
     ((border gives 0 ∷ 1 ∷ [])
     ∷ (prefix gives 2 ∷ 1 ∷ [])
     ∷ (best gives 0 ∷ 1 ∷ [])
@@ -83,7 +91,7 @@ rows =
     ∷ (normal gives 1 ∷ 0 ∷ 2 ∷ [])
     ∷ (covers gives 1 ∷ 2 ∷ [])
     ∷ [])
-    ∷ row "P3" "ab"
+    ∷ row "P3" (bytes "ab")
     ((border gives 0 ∷ 0 ∷ [])
     ∷ (prefix gives 2 ∷ 0 ∷ [])
     ∷ (best gives 0 ∷ 0 ∷ [])
@@ -91,7 +99,7 @@ rows =
     ∷ (covers gives 2 ∷ [])
     ∷ (bestRefused gives 5 ∷ [])
     ∷ [])
-    ∷ row "P4" "aaaa"
+    ∷ row "P4" (bytes "aaaa")
     ((best gives 0 ∷ 1 ∷ 1 ∷ 1 ∷ [])
     ∷ (count gives 0 ∷ 2 ∷ 3 ∷ 4 ∷ [])
     ∷ (normal gives 1 ∷ 0 ∷ 4 ∷ [])
@@ -99,7 +107,7 @@ rows =
     ∷ (weighed 4 gives 1 ∷ [])
     ∷ (limit 4 gives 2 ∷ [])
     ∷ [])
-    ∷ row "P5" "abaababab"
+    ∷ row "P5" (bytes "abaababab")
     ((border gives 0 ∷ 0 ∷ 1 ∷ 1 ∷ 2 ∷ 3 ∷ 2 ∷ 3 ∷ 2 ∷ [])
     ∷ (prefix gives 9 ∷ 0 ∷ 1 ∷ 3 ∷ 0 ∷ 3 ∷ 0 ∷ 2 ∷ 0 ∷ [])
     ∷ (best gives 0 ∷ 0 ∷ 1 ∷ 1 ∷ 2 ∷ 3 ∷ 2 ∷ 3 ∷ 2 ∷ [])
@@ -109,7 +117,7 @@ rows =
     ∷ (weighed 9 gives 2 ∷ [])
     ∷ (limit 9 gives 3 ∷ [])
     ∷ [])
-    ∷ row "P6" "ababaababa"
+    ∷ row "P6" (bytes "ababaababa")
     ((border gives 0 ∷ 0 ∷ 1 ∷ 2 ∷ 3 ∷ 1 ∷ 2 ∷ 3 ∷ 4 ∷ 5 ∷ [])
     ∷ (prefix gives 10 ∷ 0 ∷ 3 ∷ 0 ∷ 1 ∷ 5 ∷ 0 ∷ 3 ∷ 0 ∷ 1 ∷ [])
     ∷ (cover gives 0 ∷ 0 ∷ 0 ∷ 2 ∷ 3 ∷ 0 ∷ 0 ∷ 3 ∷ 0 ∷ 5 ∷ [])
@@ -122,15 +130,23 @@ rows =
     ∷ (window 5 5 3 gives 77 ∷ 77 ∷ 77 ∷ 77 ∷ 77 ∷ 0 ∷ 0 ∷ 1 ∷ 2 ∷ 3 ∷ 77 ∷ 77 ∷ [])
     ∷ (window 5 5 4 gives 77 ∷ 77 ∷ 77 ∷ 77 ∷ 77 ∷ 0 ∷ 0 ∷ 2 ∷ 4 ∷ 5 ∷ 77 ∷ 77 ∷ [])
     ∷ [])
-    ∷ row "P7" "abaababaababa"
+    ∷ row "P7" (bytes "abaababaababa")
     ((normal gives 5 ∷ 3 ∷ 2 ∷ [])
     ∷ (covers gives 3 ∷ 8 ∷ 13 ∷ [])
     ∷ (breakdown gives 13 ∷ 3 ∷ 1 ∷ [])
     ∷ [])
-    ∷ row "P8" "ababaabaabababaababaabaababa"
+    ∷ row "P8" (bytes "ababaabaabababaababaabaababa")
     ((normal gives 15 ∷ 13 ∷ 1 ∷ [])
     ∷ (covers gives 3 ∷ 28 ∷ [])
     ∷ (breakdown gives 28 ∷ 13 ∷ 5 ∷ 1 ∷ [])
     ∷ (weighed 28 gives 3 ∷ 1 ∷ [])
     ∷ [])
+    ∷ row "no reading" [] ((ceiling gives 1 ∷ 0 ∷ 0 ∷ []) ∷ [])
+    ∷ row "1 at the ceiling" (top 1) ((ceiling gives 0 ∷ 1 ∷ 1 ∷ []) ∷ [])
+    ∷ row "1 other" (4 ∷ []) ((ceiling gives 0 ∷ 0 ∷ 0 ∷ []) ∷ [])
+    ∷ row "59 at the ceiling" (top 59) ((ceiling gives 0 ∷ 1 ∷ 59 ∷ []) ∷ [])
+    ∷ row "60 at the ceiling" (top 60) ((ceiling gives 0 ∷ 1 ∷ 60 ∷ []) ∷ [])
+    ∷ row "1 other and then 59" (4 ∷ top 59) ((ceiling gives 0 ∷ 0 ∷ 59 ∷ []) ∷ [])
+    ∷ row "1 other and then 60" (4 ∷ top 60) ((ceiling gives 0 ∷ 1 ∷ 60 ∷ []) ∷ [])
+    ∷ row "60 and then 1 other" (top 60 ++ (4 ∷ [])) ((ceiling gives 0 ∷ 0 ∷ 60 ∷ []) ∷ [])
     ∷ []

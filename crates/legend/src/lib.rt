@@ -1,4 +1,5 @@
 // Floor 4: what a picture says in words: the band under its title, and the report below the chart.
+use ceilings::Ceiling;
 use pen::Pen;
 use pen::put;
 use pen::say;
@@ -10,70 +11,60 @@ pub struct Numbers {
     pub k: u16,
     pub best: u16,
     pub count: u16,
-    pub ceiling: usize,
-    pub held: bool,
+    pub ceiling: Ceiling,
 }
 
 // ---- the band under the title: how the readings stand to the ceiling
 
-// Ends the band's first line, of n readings, and adds the second.
-fn warn(out: &mut [u8], pen: Pen, n: usize, second: &[u8]) -> Pen {
-    let p = put(out, pen, b" of ", n);
-    let p = strokes::readings(out, p, n);
-    say(out, p, second)
+// The band's words in their frame.
+fn framed(
+    out: &mut [u8],
+    pen: Pen,
+    n: usize,
+    c: Ceiling,
+    last: usize,
+    before: &[u8],
+    after: &[u8],
+) -> Pen {
+    let p = say(out, pen, before);
+    let p = wording::band(out, p, n, c, last);
+    say(out, p, after)
 }
 
-fn reached(out: &mut [u8], pen: Pen, n: usize, ceiling: usize) -> Pen {
-    let p = put(
-        out,
-        pen,
-        b"<rect x='41' y='77' width='1118' height='70' fill='#fff' stroke='#b00020' stroke-width='2'/>
-<text class='alarm red' x='60' y='108'>REACHED CEILING: ",
-        ceiling,
-    );
-    warn(
-        out,
-        p,
-        n,
-        b"</text>\n<text class='red' x='60' y='136'>There the room may have held far more than 2000 ppm.</text>\n",
-    )
-}
-
-// The last readings are in a run at the ceiling.
-fn at_ceiling(out: &mut [u8], pen: Pen, n: usize, last: usize) -> Pen {
-    let p = say(
-        out,
-        pen,
-        b"<rect x='40' y='76' width='1120' height='72' fill='#b00020'/>\n<text class='alarm white' x='60' y='108'>",
-    );
-    let p = count_last(out, p, n, last);
-    warn(
-        out,
-        p,
-        n,
-        b"</text>\n<text class='white' x='60' y='136'>The room may hold far more than 2000 ppm.</text>\n",
-    )
-}
-
-fn count_last(out: &mut [u8], pen: Pen, n: usize, last: usize) -> Pen {
-    if last < n {
-        return put(out, pen, b"ENDS AT CEILING: the last ", last);
-    }
-    put(out, pen, b"HELD AT CEILING: ", last)
-}
-
-pub fn alarm(out: &mut [u8], pen: Pen, n: usize, ceiling: usize, last: usize) -> Pen {
-    if ceiling == 0 {
-        return say(
+// Of n readings the last ones, and no more, are in a run at the ceiling.
+pub fn alarm(out: &mut [u8], pen: Pen, n: usize, c: Ceiling, last: usize) -> Pen {
+    if c.ceiling == 0 {
+        return framed(
             out,
             pen,
-            b"<rect x='40' y='76' width='1120' height='72' fill='#f2f2f2'/>\n<text x='60' y='119'>No reading at the ceiling, 2000 ppm.</text>\n",
+            n,
+            c,
+            last,
+            b"<rect x='40' y='76' width='1120' height='72' fill='#f2f2f2'/>\n<text x='60' y='119'>",
+            b"</text>\n",
         );
     }
     if last == 0 {
-        return reached(out, pen, n, ceiling);
+        return framed(
+            out,
+            pen,
+            n,
+            c,
+            last,
+            b"<rect x='41' y='77' width='1118' height='70' fill='#fff' stroke='#b00020' stroke-width='2'/>
+<text class='alarm red' x='60' y='108'>",
+            b"</text>\n<text class='red' x='60' y='136'>There the room may have held far more than 2000 ppm.</text>\n",
+        );
     }
-    at_ceiling(out, pen, n, last)
+    framed(
+        out,
+        pen,
+        n,
+        c,
+        last,
+        b"<rect x='40' y='76' width='1120' height='72' fill='#b00020'/>\n<text class='alarm white' x='60' y='108'>",
+        b"</text>\n<text class='white' x='60' y='136'>The room may hold far more than 2000 ppm.</text>\n",
+    )
 }
 
 // ---- the report: each line after its meaning, which stands to the right of it
@@ -171,22 +162,19 @@ pub fn report(
         n,
     );
     let p = patterns(out, p, cover_lens, weighed_lens, r);
+    let c = r.ceiling;
     let p = one(
         out,
         p,
         b"<text class='note' x='660' y='824'>readings at 2000 ppm or above</text>
 <text class='report' x='40' y='824'>ceiling<tspan x='144'>",
-        r.ceiling,
+        words::wide(c.ceiling),
     );
     one(
         out,
         p,
-        b"<text class='note' x='660' y='852'>1 if every reading is at the ceiling</text>
+        b"<text class='note' x='660' y='852'>1 if the last 60, or all of fewer, are there</text>
 <text class='report' x='40' y='852'>held<tspan x='144'>",
-        one_if(r.held),
+        c.held as usize,
     )
-}
-
-fn one_if(b: bool) -> usize {
-    if b { 1 } else { 0 }
 }

@@ -158,8 +158,14 @@ fn pattern(x: &[u8]) -> bool {
     output::write(b"pattern ") && output::write(finder::best_pattern(x)) && output::write(b"\n")
 }
 
+// The number, held and the ceiling.
+pub fn ceiling(x: &[u8]) -> bool {
+    let c = finder::ceiling(x);
+    say(b"ceiling", &[c.number as u16, c.held as u16, c.ceiling])
+}
+
 pub fn answers(x: &[u8]) -> bool
     requires { ⌜ length (now x) ≤ 28 ⌝ }
 {
-    normal(x) && breakdown(x) && covers(x) && tests(x) && weighed(x) && pattern(x)
+    normal(x) && breakdown(x) && covers(x) && tests(x) && weighed(x) && pattern(x) && ceiling(x)
 }

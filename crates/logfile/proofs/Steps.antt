@@ -1,9 +1,9 @@
 -- What each way through the file's functions comes to, on plain lists and numbers. Assumes nothing.
-use mathlib.Core.Bool.{Bool, true, false, cond, not}
+use mathlib.Core.Bool.{Bool, true, false, not}
 use mathlib.Core.Path.{_≡_, refl, sym, ap, _∙_}
 use mathlib.Core.List.{List, [], _∷_}
 use mathlib.Core.Logic.{⊎-elim}
-use Prim.Native.Nat.{ℕ, _+_, _-_, _*_, _^_, _≤_, _<_}
+use Prim.Native.Nat.{ℕ, _+_, _-_, _*_, _≤_, _<_}
 use native.Mathlib.Nat.{zero-add, eq-or-lt-of-le}
 use native.Mathlib.Omega.{arith}
 use lib.Dec.{eqb, ltb}
@@ -12,12 +12,12 @@ use lib.Seq.{take-all}
 use borrow.Author.Tests.{eq-eqb, ne-eqb, lt-ltb, le-ltb}
 use mir.Syntax.{w64}
 use mir.Val.{Fits}
-use Rattle.words.specs.Search.{all, any, howMany}
+use Rattle.words.specs.Search.{any}
 use Rattle.words.specs.Refusals.{Refusal, firstNo, longest, logNo}
 use Rattle.words.specs.Answers.{accepted}
 use Rattle.words.specs.PlantFile as F
-use Rattle.words.proofs.Tests.{cond-case, le-or-lt}
-use Rattle.words.proofs.Search.{at-all, all-fails, any-none, some-any, howMany-zero, howMany-hit, howMany-miss, howMany-le}
+use Rattle.words.proofs.Tests.{le-or-lt}
+use Rattle.words.proofs.Search.{any-none, some-any}
 use Rattle.words.proofs.Refusals.{accepted-yes, accepted-no, first-yes, first-no, first-none, log-refused, log-passed, log-judged}
 use Rattle.logfile.specs.Place.{unknownSymbol, partPlace}
 
@@ -136,57 +136,3 @@ module _ (f : List ℕ) {k : ℕ} (e : k ≡ F.fileNo f) where
     pub place-done : (p : ℕ × ℕ) → (p .0, 3 + p .1) ≡ partPlace f p
     unfolding partPlace
     place-done p = ap (λ (o : ℕ). (p .0, o)) (sym (accepted-yes (F.fileNo f) (3 + p .1) (p .1) (sym e ∙ z)))
-
--- ---- `ceiling` and `held`
-
-module _ (symbol count : ℕ) where
-  pub one-hit : symbol ≡ F.ceilingSymbol → count + 1 ≡ cond (eqb symbol F.ceilingSymbol) (count + 1) count
-  one-hit h = simp (eq-eqb symbol F.ceilingSymbol h)
-
-  pub one-miss : (symbol ≡ F.ceilingSymbol → ⊥) → count ≡ cond (eqb symbol F.ceilingSymbol) (count + 1) count
-  one-miss h = simp (ne-eqb symbol F.ceilingSymbol h)
-
-pub record Counted (x : List ℕ) (p count : ℕ) : Type 0 where
-  pub within : p ≤ length x
-  pub number : count ≡ howMany (λ p. eqb (getD x p 0) F.ceilingSymbol) p
-
-pub counted-none : (x : List ℕ) → Counted x 0 0
-counted-none x = record { within = omega arith; number = sym (howMany-zero _) }
-
-module _ {x : List ℕ} {p count : ℕ} (w : Counted x p count) where
-  pub counted-fits : p < length x → length x < 2 ^ 64 → count + 1 ≤ 18446744073709551615
-  counted-fits h l = omega (arith, w .number, howMany-le (λ p. eqb (getD x p 0) F.ceilingSymbol) p)
-
-  pub counted-more : (r : ℕ) → p < length x → r ≡ cond (eqb (getD x p 0) F.ceilingSymbol) (count + 1) count → Counted x (p + 1) r
-  counted-more r h e = record {
-    within = omega arith;
-    number = rw e (cond-case (λ (n : ℕ). n ≡ howMany (λ p. eqb (getD x p 0) F.ceilingSymbol) (p + 1)) (eqb (getD x p 0) F.ceilingSymbol)
-        (λ t. omega (arith, w .number, howMany-hit (λ p. eqb (getD x p 0) F.ceilingSymbol) p t))
-        (λ t. w .number ∙ sym (howMany-miss (λ p. eqb (getD x p 0) F.ceilingSymbol) p t)));
-  }
-
-  pub counted-done : length x ≤ p → count ≡ F.ceiling x
-  unfolding F.ceiling
-  counted-done h = w .number ∙ ap (howMany (λ p. eqb (getD x p 0) F.ceilingSymbol)) (omega (arith, w .within))
-
-pub record Held (x : List ℕ) (p : ℕ) : Type 0 where
-  pub within : p ≤ length x
-  pub each : (k : ℕ) → k < p → getD x k 0 ≡ F.ceilingSymbol
-
-pub held-none : (x : List ℕ) → Held x 0
-held-none x = record { within = omega arith; each = λ k l. absurd (omega arith) }
-
-module _ {x : List ℕ} {p : ℕ} (w : Held x p) where
-  pub held-fails : p < length x → (getD x p 0 ≡ F.ceilingSymbol → ⊥) → false ≡ F.held x
-  unfolding F.held
-  held-fails h ne = sym (all-fails _ (length x) p h (ne-eqb _ _ ne))
-
-  pub held-more : p < length x → getD x p 0 ≡ F.ceilingSymbol → Held x (p + 1)
-  held-more h e = record {
-    within = omega arith;
-    each = λ k l. ⊎-elim (λ (z : k ≡ p). rw z e) (λ (u : k < p). w .each k u) (eq-or-lt-of-le (omega arith));
-  }
-
-  pub held-done : length x ≤ p → true ≡ F.held x
-  unfolding F.held
-  held-done h = sym (at-all _ (length x) (λ k l. eq-eqb _ _ (w .each k (omega arith))))

@@ -1,9 +1,8 @@
 -- Any two outcomes that a call's contract allows are equal: each contract gives the whole outcome as an equation. Assumes nothing.
-use mathlib.Core.Bool.{Bool}
 use mathlib.Core.Path.{_≡_}
 use mathlib.Core.List.{List}
 use Prim.Native.Nat.{ℕ}
-use Rattle.words.specs.PlantFile.{fileNo, symbols, ceiling, held}
+use Rattle.words.specs.PlantFile.{fileNo, symbols}
 use Rattle.words.proofs.Refusals.{unique}
 use Rattle.logfile.specs.Place.{partPlace}
 
@@ -12,10 +11,3 @@ pub one-file : (f : List ℕ) (p : ℕ × ℕ) {k k′ : ℕ} {s s′ : List ℕ
     → (k ≡ fileNo f) × (s ≡ symbols f) × (l ≡ partPlace f p) → (k′ ≡ fileNo f) × (s′ ≡ symbols f) × (l′ ≡ partPlace f p)
     → (k ≡ k′) × (s ≡ s′) × (l ≡ l′)
 one-file f p a b = (unique (a .0) (b .0), unique (a .1) (b .1), unique (a .2) (b .2))
-
--- ceiling and held
-pub one-ceiling : (x : List ℕ) {k k′ : ℕ} → k ≡ ceiling x → k′ ≡ ceiling x → k ≡ k′
-one-ceiling x = unique
-
-pub one-held : (x : List ℕ) {b b′ : Bool} → b ≡ held x → b′ ≡ held x → b ≡ b′
-one-held x = unique

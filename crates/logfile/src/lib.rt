@@ -1,9 +1,7 @@
-// Floor 3: the plant's file, and what the report asks of its symbols.
+// Floor 3: the plant's file.
 ghost use mathlib.Core.Path.{_≡_};
-ghost use mathlib.Core.Bool.{cond};
 ghost use Prim.Native.Nat.{_+_, _*_, _≤_};
 ghost use denote.Ref.{ptr};
-ghost use lib.Dec.{eqb};
 ghost use lib.ListN.{length};
 ghost use Rattle.words.specs.PlantFile as PlantFile;
 ghost use Rattle.logfile.specs.Place.{unknownSymbol, partPlace};
@@ -18,9 +16,6 @@ pub const SYMBOL: u8 = 8;
 pub const LONGEST_FILE: usize = 3 + words::LONGEST;
 
 pub const FILE_ROOM: usize = LONGEST_FILE + 1;
-
-// The symbol of a reading at the ceiling; no symbol is greater.
-pub const CEILING: u8 = 20;
 
 fn wide(b: u8) -> usize
     ensures { λ r. ⌜ (r ≡ b) × (r ≤ 255) ⌝ }
@@ -43,7 +38,7 @@ fn unknown(f: &[u8]) -> bool
 {
     let mut k = 3;
     while k < f.len() {
-        if CEILING < f[k] {
+        if words::CEILING < f[k] {
             return true;
         }
         k += 1;
@@ -86,39 +81,4 @@ pub fn symbols(f: &[u8]) -> &[u8]
     }
     let end = f.len();
     &f[3..end]
-}
-
-// How many symbols are the ceiling's.
-pub fn ceiling(x: &[u8]) -> usize
-    ensures { λ r. ⌜ r ≡ PlantFile.ceiling (now (x .entry)) ⌝ }
-{
-    let mut count = 0;
-    let mut p = 0;
-    while p < x.len() {
-        count = one_more(count, x[p]);
-        p += 1;
-    }
-    count
-}
-
-// One more where the symbol is the ceiling's.
-fn one_more(count: usize, symbol: u8) -> usize
-    requires { ⌜ count + 1 ≤ 18446744073709551615 ⌝ }
-    ensures { λ r. ⌜ r ≡ cond (eqb symbol PlantFile.ceilingSymbol) (count + 1) count ⌝ }
-{
-    if symbol == CEILING { count + 1 } else { count }
-}
-
-// Whether every symbol is the ceiling's.
-pub fn held(x: &[u8]) -> bool
-    ensures { λ r. ⌜ r ≡ PlantFile.held (now (x .entry)) ⌝ }
-{
-    let mut p = 0;
-    while p < x.len() {
-        if x[p] != CEILING {
-            return false;
-        }
-        p += 1;
-    }
-    true
 }

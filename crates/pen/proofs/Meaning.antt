@@ -11,7 +11,7 @@ use Rattle.words.proofs.Tests.{by-test}
 use Rattle.lines.specs.Text.{decimal, Put}
 use Rattle.lines.proofs.Texts.{put-put}
 use Rattle.pen.specs.declared.Pen.{Pen}
-use Rattle.pen.specs.Pens.{takes, penAfter, outAfter, penAfterNumber, outAfterNumber}
+use Rattle.pen.specs.Pens.{takes, penAfter, outAfter, penAfterNumber, outAfterNumber, Said}
 use Rattle.pen.proofs.Pieces.{taken-room, out-length}
 
 module _ (out : List ℕ) (p : Pen) (piece : List ℕ) where
@@ -41,14 +41,26 @@ pub left-for-good : (room : ℕ) (p : Pen) (piece : List ℕ) → p .fits ≡ fa
 unfolding penAfter takes
 left-for-good room p piece f = rw f (by-test (leb (p .at + length piece) room) (λ t. rw t) (λ t. rw t))
 
--- a piece with a number, if both fit
-pub number-behind : (out : List ℕ) (p : Pen) (piece : List ℕ) (n : ℕ) → penAfterNumber (length out) p piece n .fits ≡ true
-    → Put out (p .at) (piece ++ decimal n) (outAfterNumber out p piece n) (penAfterNumber (length out) p piece n .at)
+-- one piece, one text behind another, and a piece with a number
+pub said-piece : (out : List ℕ) (p : Pen) (piece : List ℕ) {out′ : List ℕ} {r : Pen} → r ≡ penAfter (length out) p piece → out′ ≡ outAfter out p piece
+    → Said out p piece out′ r
+said-piece out p piece e d = rw (e, d) (record {
+  kept = out-length out p piece;
+  fitted = λ f. by-test (p .fits) (λ t. t) (λ t. absurd (true≢false (sym f ∙ left-for-good (length out) p piece t)));
+  put = put-behind out p piece;
+})
+
+pub said-said : {out s mid t out′ : List ℕ} {p q r : Pen} → Said out p s mid q → Said mid q t out′ r → Said out p (s ++ t) out′ r
+said-said a b = record {
+  kept = b .kept ∙ a .kept;
+  fitted = λ f. a .fitted (b .fitted f);
+  put = λ f. put-put (a .put (b .fitted f)) (b .put f);
+}
+
+pub said-number : (out : List ℕ) (p : Pen) (piece : List ℕ) (n : ℕ) {out′ : List ℕ} {r : Pen} → r ≡ penAfterNumber (length out) p piece n
+    → out′ ≡ outAfterNumber out p piece n → Said out p (piece ++ decimal n) out′ r
 unfolding penAfterNumber outAfterNumber
-number-behind out p piece n f =
+said-number out p piece n e d =
     let named = penAfter (length out) p piece in
     let mid = outAfter out p piece in
-    let l : length mid ≡ length out = out-length out p piece in
-    let first : named .fits ≡ true =
-    by-test (named .fits) (λ t. t) (λ t. absurd (true≢false (sym f ∙ left-for-good (length out) named (decimal n) t))) in
-    put-put (put-behind out p piece first) (rw l at (put-behind mid named (decimal n) (rw l f)))
+    said-said (said-piece out p piece refl refl) (said-piece mid named (decimal n) (e ∙ ap (λ (m : ℕ). penAfter m named (decimal n)) (sym (out-length out p piece))) d)

@@ -1,11 +1,12 @@
 -- A text in a buffer, piece behind piece: what a call leaves in the buffer, and where the pen stands then. Assumes nothing.
 use mathlib.Core.Bool.{Bool, true, false, cond, _&&_}
+use mathlib.Core.Path.{_≡_}
 use mathlib.Core.List.{List, []}
 use Prim.Native.Nat.{ℕ, _+_}
 use lib.Dec.{leb}
 use lib.ListN.{length, take}
 use lib.Seq.{paste}
-use Rattle.lines.specs.Text.{decimal}
+use Rattle.lines.specs.Text.{decimal, Put}
 use Rattle.pen.specs.declared.Pen.{Pen}
 
 -- before the first piece
@@ -35,3 +36,9 @@ outAfterNumber out p piece n = outAfter (outAfter out p piece) (penAfter (length
 -- the text, if it is whole
 unfoldable pub textOf : List ℕ → Pen → List ℕ
 textOf out p = cond (takes (length out) p 0) (take (p .at) out) []
+
+-- What pieces together come to: where the pen fits after a text, it did before, and the text stands behind what was there
+pub record Said (out : List ℕ) (p : Pen) (text out′ : List ℕ) (p′ : Pen) : Type 0 where
+  pub kept : length out′ ≡ length out
+  pub fitted : p′ .fits ≡ true → p .fits ≡ true
+  pub put : p′ .fits ≡ true → Put out (p .at) text out′ (p′ .at)

@@ -12,7 +12,9 @@ fn front(t: &[u16], n: usize) -> &[u16] {
 }
 
 // What the report says in single numbers.
-fn numbers(x: &[u8], s: summary::Summary) -> legend::Numbers {
+fn numbers(x: &[u8], s: summary::Summary) -> legend::Numbers
+    requires { ⌜ Judged (length (now x)) ⌝ }
+{
     let normal = s.normal;
     legend::Numbers {
         k1: normal.k1,
@@ -20,8 +22,7 @@ fn numbers(x: &[u8], s: summary::Summary) -> legend::Numbers {
         k: normal.k,
         best: s.best,
         count: s.count,
-        ceiling: logfile::ceiling(x),
-        held: logfile::held(x),
+        ceiling: ceilings::of(x),
     }
 }
 

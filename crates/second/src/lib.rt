@@ -311,3 +311,24 @@ pub fn total(x: &[u8]) -> usize {
     }
     sum
 }
+
+const CEILING: u8 = 20;
+
+// How many readings are at the ceiling.
+pub fn ceiling(x: &[u8]) -> usize {
+    let mut count = 0;
+    for p in 0..x.len() {
+        count += one_if(x[p] == CEILING);
+    }
+    count
+}
+
+// Held: none of the last sixty readings, or of fewer, is another than the ceiling's. Each reading is asked how many there are from it to the end.
+pub fn held(x: &[u8]) -> bool {
+    for p in 0..x.len() {
+        if (x.len() - p <= 60) & (x[p] != CEILING) {
+            return false;
+        }
+    }
+    true
+}

@@ -1,5 +1,5 @@
 // The plant's file.
-ghost use Prim.Native.Nat.{_≤_, _<_};
+ghost use Prim.Native.Nat.{_<_};
 
 const VERSION: u8 = 6;
 
@@ -41,19 +41,4 @@ pub fn number(f: &[u8]) -> u8 {
         return FILE;
     }
     if all_known(&f[3..]) { 0 } else { SYMBOL }
-}
-
-fn one_if(test: bool) -> usize
-    ensures { λ r. ⌜ r ≤ 1 ⌝ }
-{
-    if test { 1 } else { 0 }
-}
-
-// How many symbols are the ceiling's.
-pub fn ceiling(symbols: &[u8]) -> usize {
-    let mut count = 0;
-    for p in 0..symbols.len() {
-        count += one_if(symbols[p] == CEILING);
-    }
-    count
 }

@@ -1,4 +1,4 @@
-// Writes what every call answers on the strings with known results, P1 to P8; then the windows of P6.
+// Writes what every call answers on the strings with known results, P1 to P8; then the windows of P6, and logs at the edges of held.
 ghost use Prim.Native.Nat.{_≤_};
 ghost use lib.ListN.{length};
 
@@ -30,8 +30,28 @@ fn windows() -> bool {
         && listing::window(b"ababaababa", 10, 0)
 }
 
+fn edge(name: &[u8], x: &[u8]) -> bool {
+    output::write(name) && output::write(b"\n") && listing::ceiling(x)
+}
+
+fn edges() -> bool {
+    let flat = [20u8; 60];
+    let mut ends = [20u8; 61];
+    let mut leaves = [20u8; 61];
+    ends[0] = 4;
+    leaves[60] = 4;
+    edge(b"no reading", &flat[..0])
+        && edge(b"1 at the ceiling", &flat[..1])
+        && edge(b"1 other", &ends[..1])
+        && edge(b"59 at the ceiling", &flat[..59])
+        && edge(b"60 at the ceiling", &flat)
+        && edge(b"1 other and then 59", &ends[..60])
+        && edge(b"1 other and then 60", &ends)
+        && edge(b"60 and then 1 other", &leaves)
+}
+
 fn main() {
-    if strings() {
-        windows();
+    if strings() && windows() {
+        edges();
     }
 }

@@ -15,14 +15,6 @@ pub fn put_two(out: &mut [u8], pen: Pen, before: &[u8], m: usize, between: &[u8]
     put(out, p, between, n)
 }
 
-// " reading", or " readings" where n is another number than one.
-pub fn readings(out: &mut [u8], pen: Pen, n: usize) -> Pen {
-    if n == 1 {
-        return say(out, pen, b" reading");
-    }
-    say(out, pen, b" readings")
-}
-
 // Where the reading after the first k of n begins.
 fn across(k: usize, n: usize) -> usize
     ensures { λ r. ⌜ r ≤ 100000 ⌝ }
@@ -38,7 +30,7 @@ fn across(k: usize, n: usize) -> usize
 
 // How far down a reading lies.
 pub fn down(symbol: u8) -> usize {
-    if logfile::CEILING <= symbol {
+    if words::CEILING <= symbol {
         return 3000;
     }
     33000 - (symbol as usize) * 1500

@@ -34,6 +34,12 @@ fn some_files(t: Tally) -> Tally {
     ))
 }
 
+fn about_the_ceiling(t: Tally) -> Tally {
+    trial_ceilings::all(t.begin(
+        b"all logs to 124 readings that are at the ceiling but for none, one or two of them, ceiling:",
+    ))
+}
+
 fn long_logs(t: Tally) -> Tally {
     let z = t.begin(
         b"logs of 0, 1, 4096 and 4097 readings, every call: border and prefix at every row, the rest to row 20 and at every 1999th, list of covers and total by the finder itself:",
@@ -49,5 +55,5 @@ fn long_logs(t: Tally) -> Tally {
 
 fn main() {
     let a = small_windows(small_logs(Tally::new()));
-    long_logs(some_files(a)).close();
+    long_logs(about_the_ceiling(some_files(a))).close();
 }

@@ -208,10 +208,31 @@ fn best_pattern(x: &[u8]) -> bool {
         & check::same(finder::best_pattern(x), &x[0..q])
 }
 
+fn ceiling(x: &[u8]) -> bool {
+    let got = finder::ceiling(x);
+    let number = second_no::breakdown(x.len());
+    if number != 0 {
+        return (got.number == number) & (got.held == 0) & (got.ceiling == 0);
+    }
+    (got.number == 0)
+        & (got.held == flag(second::held(x)))
+        & (wide(got.ceiling) == second::ceiling(x))
+}
+
+fn flag(test: bool) -> u8 {
+    if test { 1 } else { 0 }
+}
+
+// The ceiling alone, of a log for which every call would take too long.
+pub fn at_ceiling(t: Tally, x: &[u8]) -> Tally {
+    t.see(calls::CEILING, x, 0, ceiling(x))
+}
+
 // Every call that only answers.
 pub fn all(t: Tally, w: Way, x: &[u8]) -> Tally {
     let t1 = at_places(t, w, x);
     let t2 = cover_tests(t1, w, x);
     let t3 = t2.see(calls::BREAKDOWN, x, 0, breakdown(x));
-    t3.see(calls::BEST_PATTERN, x, 0, best_pattern(x))
+    let t4 = t3.see(calls::BEST_PATTERN, x, 0, best_pattern(x));
+    at_ceiling(t4, x)
 }

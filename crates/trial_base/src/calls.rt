@@ -29,6 +29,8 @@ pub const BEST_PATTERN: u8 = 25;
 
 pub const PLANT_FILE: u8 = 26;
 
+pub const CEILING: u8 = 27;
+
 fn column(whole: bool, call: u8) -> bool {
     match call {
         BORDER => say(whole, b" border_table"),
@@ -49,6 +51,7 @@ fn answer(whole: bool, call: u8) -> bool {
         COVER_LIST => say(whole, b" cover_list"),
         WEIGHED => say(whole, b" weighed_list"),
         BEST_PATTERN => say(whole, b" best_pattern"),
+        CEILING => say(whole, b" ceiling"),
         _ => say(whole, b" file"),
     }
 }

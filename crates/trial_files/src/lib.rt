@@ -1,4 +1,4 @@
-// Holds the file reader, and what the report counts in its symbols, to the second way.
+// Holds the file reader to the second way.
 use trial_base::calls;
 use trial_base::tally::Tally;
 
@@ -17,20 +17,12 @@ fn symbols(f: &[u8], number: u8) -> &[u8] {
 pub fn compare(t: Tally, f: &[u8]) -> Tally {
     let number = second_no::plant::number(f);
     let want = symbols(f, number);
-    let ceiling = second_no::plant::ceiling(want);
     let t1 = t.see(calls::PLANT_FILE, f, 0, logfile::number(f) == number);
-    let t2 = t1.see(
+    t1.see(
         calls::PLANT_FILE,
         f,
         1,
         check::same(logfile::symbols(f), want),
-    );
-    let t3 = t2.see(calls::PLANT_FILE, f, 2, logfile::ceiling(want) == ceiling);
-    t3.see(
-        calls::PLANT_FILE,
-        f,
-        3,
-        logfile::held(want) == (ceiling == want.len()),
     )
 }
 

@@ -1,21 +1,16 @@
 -- The flat log: n equal readings, n at least 2. It comes out as what it is, a pattern of one reading, at every prefix. Assumes nothing.
-use mathlib.Core.Bool.{Bool, true, false}
 use mathlib.Core.Path.{_≡_, refl, sym, ap, _∙_}
 use mathlib.Core.List.{List, [], _∷_, _++_}
 use mathlib.Core.Logic.{_⊎_, inl, inr, ⊎-elim}
 use Prim.Native.Nat.{ℕ, zero, suc, _+_, _-_, _/_, _%_, _≤_, _<_}
-use native.Mathlib.Nat.{zero-add}
 use native.Mathlib.Omega.{arith}
 use lib.Dec.{eqb}
 use lib.ListN.{length, getD, replicate, length-replicate, getD-replicate}
-use borrow.Author.Tests.{eq-eqb}
 use Rattle.words.specs.declared.Part.{Part}
 use Rattle.words.specs.Search.{rising}
 use Rattle.words.specs.Words.{border, cover, covers, best, count, normal, coverList, weighed}
 use Rattle.words.specs.Tables.{tabulate}
-use Rattle.words.specs.PlantFile.{ceiling, held, ceilingSymbol}
 use Rattle.words.proofs.Tests.{le-or-lt}
-use Rattle.words.proofs.Search.{at-all, howMany-all, howMany-zero}
 use Rattle.words.proofs.Occurrences.{Occurs, is-same}
 use Rattle.words.proofs.Borders.{Border, border-is}
 use Rattle.words.proofs.Covers.{Covers, covers-iff, cover-is, cover-lt}
@@ -130,15 +125,3 @@ pub record FlatLog (x : List ℕ) (n : ℕ) : Type 0 where
 
 pub flat-log : (a n : ℕ) → 2 ≤ n → FlatLog (replicate n a) n
 flat-log a n two = record { whole = flat a n n two (omega arith); covers = flat-coverList a n }
-
--- at the ceiling: every reading counts, and the head is held
-pub flat-ceiling : (n : ℕ) → ceiling (replicate n ceilingSymbol) ≡ n
-unfolding ceiling
-flat-ceiling n =
-    let p : ℕ → Bool = λ p. eqb (getD (replicate n ceilingSymbol) p 0) ceilingSymbol in
-    let full = howMany-all p 0 n (λ k _ l. eq-eqb _ _ (getD-replicate n k ceilingSymbol 0 (omega arith))) in
-    rw (length-replicate n ceilingSymbol) (omega (arith, rw (zero-add n) at full, howMany-zero p))
-
-pub flat-held : (n : ℕ) → held (replicate n ceilingSymbol) ≡ true
-unfolding held
-flat-held n = at-all _ _ (λ k l. eq-eqb _ _ (getD-replicate n k ceilingSymbol 0 (omega (arith, length-replicate n ceilingSymbol))))

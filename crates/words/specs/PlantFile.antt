@@ -1,10 +1,10 @@
 -- The plant's file: a version byte, the number of readings in two bytes, the greater first, and one symbol a reading. Assumes nothing.
-use mathlib.Core.Bool.{Bool, not}
+use mathlib.Core.Bool.{not}
 use mathlib.Core.List.{List, [], _∷_}
 use Prim.Native.Nat.{ℕ, _+_, _*_}
 use lib.Dec.{eqb, ltb}
 use lib.ListN.{length, getD, drop}
-use Rattle.words.specs.Search.{all, any, howMany}
+use Rattle.words.specs.Search.{any}
 use Rattle.words.specs.Refusals.{Refusal, firstNo, empty, long}
 use Rattle.words.specs.Answers.{accepted}
 
@@ -37,10 +37,3 @@ fileNo f = firstNo (headless f ∷ version f ∷ empty (fieldOf f) ∷ long (fie
 -- the symbols: the part of the file after its third byte
 unfoldable pub symbols : List ℕ → List ℕ
 symbols f = accepted (fileNo f) (drop 3 f) []
-
--- how many symbols of a log are the ceiling's; all of them are
-unfoldable pub ceiling : List ℕ → ℕ
-ceiling x = howMany (λ p. eqb (getD x p 0) ceilingSymbol) (length x)
-
-unfoldable pub held : List ℕ → Bool
-held x = all (λ p. eqb (getD x p 0) ceilingSymbol) (length x)

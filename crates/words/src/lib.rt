@@ -10,6 +10,9 @@ pub const WEIGHED_PLACES: usize = 12;
 
 pub const BREAKDOWN_PLACES: usize = 13;
 
+// The symbol of a reading at the ceiling (`ceilingSymbol` of specs/); no symbol is greater.
+pub const CEILING: u8 = 20;
+
 // A call that only writes a table.
 #[repr(C)]
 pub struct Written {

@@ -1,5 +1,5 @@
 //! Every answer straight from its definition, with nothing remembered from one prefix to the next.
-use finder::{Breakdown, Normal, Part, Refusal, Weighed, BREAKDOWN_PLACES, LONGEST, WEIGHED_PLACES};
+use finder::{Breakdown, Ceiling, Normal, Part, Refusal, Weighed, BREAKDOWN_PLACES, LONGEST, WEIGHED_PLACES};
 
 /// The pattern of length q occurs with its end at e.
 fn ends(x: &[u8], q: usize, e: usize) -> bool {
@@ -88,6 +88,13 @@ pub fn weighed(x: &[u8], i: usize) -> Weighed {
     }
     let limit = (0..16).rev().find(|&k| 1 << k <= i).unwrap();
     Weighed { used: list.len() as u16, limit, places }
+}
+
+/// Held: whatever is not at the ceiling stands at least sixty readings before the end.
+pub fn ceiling(x: &[u8]) -> Ceiling {
+    let others = x.iter().enumerate().filter(|reading| *reading.1 != 20);
+    let ceiling = (x.len() - others.clone().count()) as u16;
+    Ceiling { held: others.last().map_or(true, |(place, _)| place + 60 < x.len()), ceiling }
 }
 
 /// The five columns of a log and its weighed total.

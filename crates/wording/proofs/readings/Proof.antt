@@ -1,0 +1,19 @@
+-- `wording::readings` meets its contract. Assumes nothing.
+use borrow.Author.Needs.{needs}
+use Rattle.pen.proofs.Meaning.{said-piece}
+use Rattle.wording.proofs.Steps.{readings-one, readings-more}
+use Rattle.wording.proofs.readings.Statement.{statement}
+use Rattle.wording.proofs.readings.Tie as tie
+
+pub readings-spec : {M : Type 1} → statement M
+readings-spec =
+    tie.close
+    (tie.spec
+    (λ c. search needs)
+    (λ c κs. search needs)
+    (λ c. search needs)
+    (λ c. search (readings-one, said-piece))
+    (λ c. search needs)
+    (λ c κs. search needs)
+    (λ c. search needs)
+    (λ c. search (readings-more, said-piece)))
