@@ -11,5 +11,7 @@ int main(void)
     for (int i = 0; i < 10; i++)
         printf(" %d", border[i]);
     printf("\nbest pattern: the first %zu readings\n", finder_best_pattern(log, 10).len);
+    finder_held head = finder_ceiling(log, 10);
+    printf("at the ceiling: %d readings, %s now\n", head.ceiling, head.held ? "held" : "not held");
     return 0;
 }

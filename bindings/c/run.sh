@@ -19,6 +19,7 @@ gcc -std=c99 "${warnings[@]}" -I../../include example.c "$library" -o "$made/exa
 diff <("$made/example") - <<'SHOWN'
 border table: 0 0 1 2 3 1 2 3 4 5
 best pattern: the first 3 readings
+at the ceiling: 4 readings, not held now
 SHOWN
 echo "c example: shows what it should"
 

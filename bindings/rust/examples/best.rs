@@ -4,5 +4,6 @@ fn main() -> Result<(), finder::Refusal> {
     finder::border_table(&log, &mut border)?;
     println!("border table: {border:?}");
     println!("best pattern: {:?}", finder::best_pattern(&log)?);
+    println!("{:?}", finder::ceiling(&log)?);
     Ok(())
 }

@@ -1,9 +1,9 @@
--- What `held` means, in the sentence's own words, and what it comes to on logs that end at the ceiling. Assumes nothing.
-use mathlib.Core.Bool.{Bool, true, false, cond, true≢false}
-use mathlib.Core.Path.{_≡_, refl, sym, ap, _∙_}
+-- What `held` means, in the sentence's own words, and what it comes to on every log. Assumes nothing.
+use mathlib.Core.Bool.{true, false, cond, true≢false}
+use mathlib.Core.Path.{_≡_, sym, ap, _∙_}
 use mathlib.Core.List.{List, _∷_, _++_}
 use mathlib.Core.Logic.{_⊎_, inl, inr, ⊎-elim, _↔_}
-use Prim.Native.Nat.{ℕ, suc, _+_, _-_, _≤_, _<_}
+use Prim.Native.Nat.{ℕ, suc, _+_, _-_, _≤_, _<_, min}
 use native.Mathlib.Nat.{zero-add}
 use native.Mathlib.Omega.{arith}
 use lib.Dec.{eqb, leb}
@@ -12,7 +12,7 @@ use lib.Seq.{ext-getD, getD-drop, getD-append-seam, getD-append-add}
 use borrow.Author.Tests.{eq-eqb, ne-eqb, eqb-true, le-leb, lt-leb}
 use Rattle.words.specs.PlantFile.{ceilingSymbol}
 use Rattle.words.proofs.Tests.{le-or-lt, eq-or-ne, not-passed}
-use Rattle.words.proofs.Search.{all-at, at-all, all-fails, howMany-all, howMany-none, howMany-zero}
+use Rattle.words.proofs.Search.{all-at, at-all, howMany-all, howMany-none, howMany-zero}
 use Rattle.ceilings.specs.Ceilings.{there, ceiling, full, recent, latest, held}
 use Rattle.ceilings.proofs.Steps.{latest-few}
 
@@ -20,7 +20,7 @@ use Rattle.ceilings.proofs.Steps.{latest-few}
 abbrev pub flat : ℕ → List ℕ
 flat n = replicate n ceilingSymbol
 
--- ---- the sentence: n is at least 60 and the last 60 symbols are all 20, or n is below 60 and every symbol is 20
+-- ---- the sentence: n is at least 60 and the last 60 symbols are all 20, or n is below 60 and every symbol is 20; else not
 
 abbrev pub Held : List ℕ → Type 0
 Held x = ((recent ≤ length x) × (drop (length x - recent) x ≡ flat recent)) ⊎ ((length x < recent) × (x ≡ flat (length x)))
@@ -34,10 +34,14 @@ full-iff x = (
 )
 
 module _ (x : List ℕ) where
+  pub latest-length : length (latest x) ≡ min recent (length x)
+  unfolding latest
+  latest-length = simp length-drop (omega arith)
+
   many : recent ≤ length x → (held x ≡ true) ↔ (drop (length x - recent) x ≡ flat recent)
   unfolding held latest
   many h =
-      let n : length (latest x) ≡ recent = simp length-drop (omega arith) in
+      let n : length (latest x) ≡ recent = omega (arith, latest-length) in
       let e : flat (length (latest x)) ≡ flat recent = ap flat n in
       (λ t. full-iff (latest x) .0 t ∙ e, λ p. full-iff (latest x) .1 (p ∙ sym e))
 
@@ -54,43 +58,53 @@ module _ (x : List ℕ) where
   pub held-else : (held x ≡ false) ↔ (Held x → ⊥)
   held-else = (λ e h. true≢false (sym (held-meaning .1 h) ∙ e), λ f. not-passed (held x) (λ t. f (held-meaning .0 t)))
 
--- ---- logs that are flat, and logs that end at the ceiling: every log is one of the two kinds
+  -- ---- reading by reading
 
--- a log that is at the ceiling from its first reading on is held
-pub full-held : (x : List ℕ) → full x ≡ true → held x ≡ true
-unfolding held full latest
-full-held x e = at-all _ _ (λ k h. ap (λ (v : ℕ). eqb v ceilingSymbol) (getD-drop (length x - recent) x k 0)
-    ∙ all-at (there x) (length x) e (length x - recent + k) (omega (arith, length-drop (length x - recent) x)))
+  pub held-iff : (held x ≡ true) ↔ ((j : ℕ) → length x - recent ≤ j → j < length x → getD x j 0 ≡ ceilingSymbol)
+  unfolding held full latest
+  held-iff =
+      let m : ℕ = length x - recent in
+      let size = length-drop m x in (
+        λ e j a b.
+            let p : ℕ = j - m in
+            let at : getD (drop m x) p 0 ≡ getD x j 0 = getD-drop m x p 0 ∙ ap (λ (k : ℕ). getD x k 0) (omega arith) in
+            sym at ∙ eqb-true _ _ (all-at (there (drop m x)) (length (drop m x)) e p (omega arith)),
+        λ h. at-all (there (drop m x)) (length (drop m x)) (λ p l. eq-eqb _ _ (getD-drop m x p 0 ∙ h (m + p) (omega arith) (omega arith))),
+      )
+
+  pub held-fails : (j : ℕ) → length x - recent ≤ j → j < length x → (getD x j 0 ≡ ceilingSymbol → ⊥) → held x ≡ false
+  held-fails j a b ne = not-passed (held x) (λ t. ne (held-iff .0 t j a b))
+
+-- ---- a flat log, for every n: held exactly where it is flat at the ceiling, and then all of it counts
 
 module _ (a n : ℕ) where
-  reads : (k : ℕ) → k < length (replicate n a) → getD (replicate n a) k 0 ≡ a
-  reads k h = getD-replicate n k a 0 (omega (arith, length-replicate n a))
+  size-flat : length (replicate n a) ≡ n
+  size-flat = length-replicate n a
 
-  -- n equal readings, for every n: held exactly where they are at the ceiling, and then all of them count
+  reads : (k : ℕ) → k < n → getD (replicate n a) k 0 ≡ a
+  reads k h = getD-replicate n k a 0 h
+
   pub flat-held : 0 < n → held (replicate n a) ≡ eqb a ceilingSymbol
-  unfolding held full latest
   flat-held some = ⊎-elim
-      (λ (e : a ≡ ceilingSymbol). full-held (replicate n a) (at-all _ _ (λ k h. eq-eqb _ _ (reads k h ∙ e))) ∙ sym (eq-eqb _ _ e))
+      (λ (e : a ≡ ceilingSymbol). held-iff (replicate n a) .1 (λ j _ h. reads j (omega (arith, size-flat)) ∙ e) ∙ sym (eq-eqb _ _ e))
       (λ (ne : a ≡ ceilingSymbol → ⊥).
-      let m : ℕ = length (replicate n a) - recent in
-      let first : getD (drop m (replicate n a)) 0 0 ≡ a = getD-drop m (replicate n a) 0 0 ∙ reads (m + 0) (omega (arith, length-replicate n a)) in
-      all-fails _ _ 0 (omega (arith, length-drop m (replicate n a), length-replicate n a)) (ne-eqb _ _ (λ e. ne (sym first ∙ e))) ∙ sym (ne-eqb _ _ ne))
+      held-fails (replicate n a) (n - 1) (omega (arith, size-flat)) (omega (arith, size-flat)) (λ e. ne (sym (reads (n - 1) (omega arith)) ∙ e)) ∙ sym (ne-eqb _ _ ne))
       (eq-or-ne a ceilingSymbol)
 
   pub flat-ceiling : ceiling (replicate n a) ≡ cond (eqb a ceilingSymbol) n 0
   unfolding ceiling
   flat-ceiling =
-      let l = length-replicate n a in
       let none = howMany-zero (there (replicate n a)) in ⊎-elim
       (λ (e : a ≡ ceilingSymbol).
       let all = howMany-all (there (replicate n a)) 0 n (λ k _ h. eq-eqb _ _ (reads k (omega arith) ∙ e)) in
-      rw (l, eq-eqb _ _ e) (omega (arith, rw (zero-add n) at all)))
+      rw (size-flat, eq-eqb _ _ e) (omega (arith, rw (zero-add n) at all)))
       (λ (ne : a ≡ ceilingSymbol → ⊥).
       let nil = howMany-none (there (replicate n a)) 0 n (λ k _ h. ne-eqb _ _ (λ e. ne (sym (reads k (omega arith)) ∙ e))) in
-      rw (l, ne-eqb _ _ ne) (omega (arith, rw (zero-add n) at nil)))
+      rw (size-flat, ne-eqb _ _ ne) (omega (arith, rw (zero-add n) at nil)))
       (eq-or-ne a ceilingSymbol)
 
--- a log whose last k readings are at the ceiling, after another one: held exactly where k is at least 60
+-- ---- any other log, whose last k readings are at the ceiling, after another one: held exactly where k is at least 60
+
 module _ (x : List ℕ) (a k : ℕ) (other : a ≡ ceilingSymbol → ⊥) where
   abbrev y : List ℕ
   y = x ++ (a ∷ flat k)
@@ -103,22 +117,9 @@ module _ (x : List ℕ) (a k : ℕ) (other : a ≡ ceilingSymbol → ⊥) where
       let i : ℕ = j - length x - 1 in
       ap (λ (m : ℕ). getD y m 0) (omega arith) ∙ getD-append-add x (a ∷ flat k) (suc i) 0 ∙ getD-replicate k i ceilingSymbol 0 (omega (arith, size))
 
-  at-latest : (p j : ℕ) → length y - recent + p ≡ j → getD (latest y) p 0 ≡ getD y j 0
-  unfolding latest
-  at-latest p j e = getD-drop (length y - recent) y p 0 ∙ ap (λ (m : ℕ). getD y m 0) e
-
-  latest-size : length (latest y) ≡ length y - (length y - recent)
-  unfolding latest
-  latest-size = length-drop (length y - recent) y
-
   pub held-run : held y ≡ leb recent k
-  unfolding held full
   held-run = ⊎-elim
-      (λ (h : recent ≤ k).
-      at-all _ _ (λ p l. eq-eqb _ _ (at-latest p (length y - recent + p) refl ∙ reads-run (length y - recent + p) (omega (arith, size)) (omega (arith, size, latest-size))))
-      ∙ sym (le-leb _ _ h))
+      (λ (h : recent ≤ k). held-iff y .1 (λ j m l. reads-run j (omega (arith, size)) l) ∙ sym (le-leb _ _ h))
       (λ (h : k < recent).
-      all-fails _ _ (length x - (length y - recent)) (omega (arith, size, latest-size))
-      (ne-eqb _ _ (λ e. other (sym (at-latest (length x - (length y - recent)) (length x) (omega (arith, size)) ∙ getD-append-seam x a (flat k) 0) ∙ e)))
-      ∙ sym (lt-leb _ _ h))
+      held-fails y (length x) (omega (arith, size)) (omega (arith, size)) (λ e. other (sym (getD-append-seam x a (flat k) 0) ∙ e)) ∙ sym (lt-leb _ _ h))
       (le-or-lt recent k)

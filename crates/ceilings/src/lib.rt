@@ -9,7 +9,7 @@ ghost use Rattle.words.specs.PlantFile.{ceilingSymbol};
 ghost use Rattle.ceilings.specs.Ceilings as Ceilings;
 
 // How many of the last readings say where the head stands now (`recent` of specs/).
-const RECENT: usize = 60;
+pub const RECENT: usize = 60;
 
 // held is 1 where the head is held at the ceiling now, else 0; ceiling is how many readings are there.
 #[repr(C)]

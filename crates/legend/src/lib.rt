@@ -170,10 +170,16 @@ pub fn report(
 <text class='report' x='40' y='824'>ceiling<tspan x='144'>",
         words::wide(c.ceiling),
     );
+    let p = put(
+        out,
+        p,
+        b"<text class='note' x='660' y='852'>1 if the last ",
+        ceilings::RECENT,
+    );
     one(
         out,
         p,
-        b"<text class='note' x='660' y='852'>1 if the last 60, or all of fewer, are there</text>
+        b", or all of fewer, are there</text>
 <text class='report' x='40' y='852'>held<tspan x='144'>",
         c.held as usize,
     )
