@@ -91,7 +91,7 @@ static const struct {
 
 static const struct {
     const char *name;
-    int first, last, has_total, last_row, has_ceiling; /* the columns that it writes, whether only their last row, and what else */
+    int first, last, has_total, last_row, has_ceiling; /* the columns that it writes, and whether only their last row; totals apart */
 } calls[CALLS] = {{"border", 0, 0, 0, 0, 0}, {"prefix", 1, 1, 0, 0, 0},  {"cover", 2, 2, 0, 0, 0},   {"enhanced", 3, 4, 1, 0, 0},
                   {"window", 0, 4, 1, 0, 0}, {"pattern", 3, 3, 0, 1, 0}, {"ceiling", 0, -1, 0, 0, 1}};
 

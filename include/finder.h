@@ -186,7 +186,7 @@ finder_span finder_best_pattern(const uint8_t *x, size_t n);
 
 /*
  * How the log stands to the ceiling. `held` is 1 if the last FINDER_RECENT readings are all FINDER_CEILING, or, where the log has
- * fewer, if every reading is; else 0. `ceiling` is how many readings of the whole log are. Any other byte is another reading.
+ * fewer, if every reading is; else 0. `ceiling` is how many of all its readings are. The others may have any value.
  * Refuses: EMPTY; LONG.
  */
 finder_held finder_ceiling(const uint8_t *x, size_t n);

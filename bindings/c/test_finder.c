@@ -402,34 +402,33 @@ static void lengths(void)
     }
 }
 
-/* At the ceiling but for one reading of any value, wherever it stands; the log ends where its memory does. */
+/* At the ceiling but for one reading of any value, wherever it stands. Readings at the ceiling lie before and after the log too. */
 static void ceilings(void)
 {
-    for (size_t n = 1; n <= 125; n++) {
-        uint8_t *x = malloc(n);
-        memset(x, 20, n);
-        check_ceiling(x, n);
-        for (size_t p = 0; p < n; p++) {
+    enum { MOST = 125 };
+    uint8_t shelf[3 * MOST], *x = shelf + MOST;
+    memset(shelf, 20, sizeof shelf);
+    for (size_t n = 1; n <= MOST; n++)
+        for (size_t p = 0; p < n; p++)
             for (int value = 0; value < 256; value++) {
                 x[p] = (uint8_t)value;
                 check_ceiling(x, n);
+                x[p] = 20;
             }
-            x[p] = 20;
-        }
-        free(x);
-    }
 }
 
-/* 59 and 60 at the ceiling; another before 59 and before 60; another after 60; one reading alone. */
+/* So many others, so many at the ceiling, so many others; in the header's own numbers, which the checks above do not use. */
 static void edges(void)
 {
-    static const struct { size_t before, run, after, held; } edge[] = {{0, 59, 0, 1}, {0, 60, 0, 1}, {1, 59, 0, 0}, {1, 60, 0, 1},
-                                                                       {0, 60, 1, 0}, {0, 1, 0, 1},  {1, 0, 0, 0}};
+    enum { ALL = FINDER_RECENT, LESS = ALL - 1 };
+    static const struct { size_t before, run, after, held; } edge[] = {{0, LESS, 0, 1}, {0, ALL, 0, 1}, {1, LESS, 0, 0}, {1, ALL, 0, 1},
+                                                                       {0, ALL, 1, 0},  {0, 1, 0, 1},   {1, 0, 0, 0}};
     for (size_t k = 0; k < sizeof edge / sizeof *edge; k++) {
-        uint8_t x[61] = {4};
+        uint8_t x[1 + ALL];
         size_t n = edge[k].before + edge[k].run + edge[k].after;
-        memset(x + edge[k].before, 20, edge[k].run);
-        x[n - 1] = edge[k].after ? 4 : x[n - 1];
+        memset(x, 4, sizeof x);
+        memset(x + edge[k].before, FINDER_CEILING, edge[k].run);
+        check_ceiling(x, n);
         finder_held h = finder_ceiling(x, n);
         CHECK(h.number == 0 && h.held == edge[k].held && h.ceiling == edge[k].run);
     }

@@ -330,7 +330,7 @@ pub fn best_pattern(log: &[u8]) -> Result<&[u8], Refusal> {
 }
 
 /// How the log stands to the ceiling. It is held if the last [`RECENT`] readings are all [`CEILING`], or, where there are fewer, if
-/// every reading is. Any other byte is another reading. Refuses: `Empty`, `Long`.
+/// every reading is. The others may have any value. Refuses: `Empty`, `Long`.
 ///
 /// ```
 /// let mut log = [20; 90];

@@ -1,5 +1,5 @@
 //! Logs whose results are known from elsewhere. They hold the definitions of the other tests in place.
-use finder::{Ceiling, Refusal, Tables};
+use finder::{Ceiling, Refusal, Tables, CEILING, RECENT};
 
 struct Row {
     log: &'static [u8],
@@ -84,9 +84,10 @@ fn lists() {
 /// So many others, so many at the ceiling, so many others; and whether the head is held.
 #[test]
 fn edges_of_held() {
+    assert_eq!((CEILING, RECENT), (20, 60));
     let edges = [(0, 59, 0, true), (0, 60, 0, true), (1, 59, 0, false), (1, 60, 0, true), (0, 60, 1, false), (0, 1, 0, true), (1, 0, 0, false)];
     for (before, run, after, held) in edges {
-        let log = [vec![4; before], vec![20; run], vec![4; after]].concat();
+        let log = [vec![4; before], vec![CEILING; run], vec![4; after]].concat();
         assert_eq!(finder::ceiling(&log), Ok(Ceiling { held, ceiling: run as u16 }));
     }
     assert_eq!(finder::ceiling(&[]), Err(Refusal::Empty));

@@ -1,7 +1,7 @@
 -- What `held` means, in the sentence's own words, and what it comes to on every log. Assumes nothing.
 use mathlib.Core.Bool.{true, false, cond, true≢false}
-use mathlib.Core.Path.{_≡_, sym, ap, _∙_}
-use mathlib.Core.List.{List, _∷_, _++_}
+use mathlib.Core.Path.{_≡_, refl, sym, ap, _∙_}
+use mathlib.Core.List.{List, [], _∷_, _++_}
 use mathlib.Core.Logic.{_⊎_, inl, inr, ⊎-elim, _↔_}
 use Prim.Native.Nat.{ℕ, suc, _+_, _-_, _≤_, _<_, min}
 use native.Mathlib.Nat.{zero-add}
@@ -13,7 +13,7 @@ use borrow.Author.Tests.{eq-eqb, ne-eqb, eqb-true, le-leb, lt-leb}
 use Rattle.words.specs.PlantFile.{ceilingSymbol}
 use Rattle.words.proofs.Tests.{le-or-lt, eq-or-ne, not-passed}
 use Rattle.words.proofs.Search.{all-at, at-all, howMany-all, howMany-none, howMany-zero}
-use Rattle.ceilings.specs.Ceilings.{there, ceiling, full, recent, latest, held}
+use Rattle.ceilings.specs.Ceilings.{atCeiling, ceiling, stuck, recent, latest, held}
 use Rattle.ceilings.proofs.Steps.{latest-few}
 
 -- n readings at the ceiling
@@ -25,12 +25,12 @@ flat n = replicate n ceilingSymbol
 abbrev pub Held : List ℕ → Type 0
 Held x = ((recent ≤ length x) × (drop (length x - recent) x ≡ flat recent)) ⊎ ((length x < recent) × (x ≡ flat (length x)))
 
-pub full-iff : (x : List ℕ) → (full x ≡ true) ↔ (x ≡ flat (length x))
-unfolding full
-full-iff x = (
+pub stuck-iff : (x : List ℕ) → (stuck x ≡ true) ↔ (x ≡ flat (length x))
+unfolding stuck
+stuck-iff x = (
   λ e. ext-getD 0 x (flat (length x)) (sym (length-replicate (length x) ceilingSymbol))
-      (λ k h. eqb-true _ _ (all-at (there x) (length x) e k h) ∙ sym (getD-replicate (length x) k ceilingSymbol 0 h)),
-  λ e. at-all (there x) (length x) (λ k h. eq-eqb _ _ (ap (λ (y : List ℕ). getD y k 0) e ∙ getD-replicate (length x) k ceilingSymbol 0 h)),
+      (λ k h. eqb-true _ _ (all-at (atCeiling x) (length x) e k h) ∙ sym (getD-replicate (length x) k ceilingSymbol 0 h)),
+  λ e. at-all (atCeiling x) (length x) (λ k h. eq-eqb _ _ (ap (λ (y : List ℕ). getD y k 0) e ∙ getD-replicate (length x) k ceilingSymbol 0 h)),
 )
 
 module _ (x : List ℕ) where
@@ -43,11 +43,11 @@ module _ (x : List ℕ) where
   many h =
       let n : length (latest x) ≡ recent = omega (arith, latest-length) in
       let e : flat (length (latest x)) ≡ flat recent = ap flat n in
-      (λ t. full-iff (latest x) .0 t ∙ e, λ p. full-iff (latest x) .1 (p ∙ sym e))
+      (λ t. stuck-iff (latest x) .0 t ∙ e, λ p. stuck-iff (latest x) .1 (p ∙ sym e))
 
   few : length x < recent → (held x ≡ true) ↔ (x ≡ flat (length x))
   unfolding held
-  few h = (λ t. full-iff x .0 (ap full (latest-few x h) ∙ t), λ p. ap full (sym (latest-few x h)) ∙ full-iff x .1 p)
+  few h = (λ t. stuck-iff x .0 (ap stuck (latest-few x h) ∙ t), λ p. ap stuck (sym (latest-few x h)) ∙ stuck-iff x .1 p)
 
   pub held-meaning : (held x ≡ true) ↔ Held x
   held-meaning = (
@@ -58,19 +58,22 @@ module _ (x : List ℕ) where
   pub held-else : (held x ≡ false) ↔ (Held x → ⊥)
   held-else = (λ e h. true≢false (sym (held-meaning .1 h) ∙ e), λ f. not-passed (held x) (λ t. f (held-meaning .0 t)))
 
-  -- ---- reading by reading
+  -- ---- reading by reading: from the first m on, and from the last 60 on
 
-  pub held-iff : (held x ≡ true) ↔ ((j : ℕ) → length x - recent ≤ j → j < length x → getD x j 0 ≡ ceilingSymbol)
-  unfolding held full latest
-  held-iff =
-      let m : ℕ = length x - recent in
+  pub stuck-from : (m : ℕ) → (stuck (drop m x) ≡ true) ↔ ((j : ℕ) → m ≤ j → j < length x → getD x j 0 ≡ ceilingSymbol)
+  unfolding stuck
+  stuck-from m =
       let size = length-drop m x in (
         λ e j a b.
             let p : ℕ = j - m in
             let at : getD (drop m x) p 0 ≡ getD x j 0 = getD-drop m x p 0 ∙ ap (λ (k : ℕ). getD x k 0) (omega arith) in
-            sym at ∙ eqb-true _ _ (all-at (there (drop m x)) (length (drop m x)) e p (omega arith)),
-        λ h. at-all (there (drop m x)) (length (drop m x)) (λ p l. eq-eqb _ _ (getD-drop m x p 0 ∙ h (m + p) (omega arith) (omega arith))),
+            sym at ∙ eqb-true _ _ (all-at (atCeiling (drop m x)) (length (drop m x)) e p (omega arith)),
+        λ h. at-all (atCeiling (drop m x)) (length (drop m x)) (λ p l. eq-eqb _ _ (getD-drop m x p 0 ∙ h (m + p) (omega arith) (omega arith))),
       )
+
+  pub held-iff : (held x ≡ true) ↔ ((j : ℕ) → length x - recent ≤ j → j < length x → getD x j 0 ≡ ceilingSymbol)
+  unfolding held latest
+  held-iff = stuck-from (length x - recent)
 
   pub held-fails : (j : ℕ) → length x - recent ≤ j → j < length x → (getD x j 0 ≡ ceilingSymbol → ⊥) → held x ≡ false
   held-fails j a b ne = not-passed (held x) (λ t. ne (held-iff .0 t j a b))
@@ -94,12 +97,12 @@ module _ (a n : ℕ) where
   pub flat-ceiling : ceiling (replicate n a) ≡ cond (eqb a ceilingSymbol) n 0
   unfolding ceiling
   flat-ceiling =
-      let none = howMany-zero (there (replicate n a)) in ⊎-elim
+      let none = howMany-zero (atCeiling (replicate n a)) in ⊎-elim
       (λ (e : a ≡ ceilingSymbol).
-      let all = howMany-all (there (replicate n a)) 0 n (λ k _ h. eq-eqb _ _ (reads k (omega arith) ∙ e)) in
+      let all = howMany-all (atCeiling (replicate n a)) 0 n (λ k _ h. eq-eqb _ _ (reads k (omega arith) ∙ e)) in
       rw (size-flat, eq-eqb _ _ e) (omega (arith, rw (zero-add n) at all)))
       (λ (ne : a ≡ ceilingSymbol → ⊥).
-      let nil = howMany-none (there (replicate n a)) 0 n (λ k _ h. ne-eqb _ _ (λ e. ne (sym (reads k (omega arith)) ∙ e))) in
+      let nil = howMany-none (atCeiling (replicate n a)) 0 n (λ k _ h. ne-eqb _ _ (λ e. ne (sym (reads k (omega arith)) ∙ e))) in
       rw (size-flat, ne-eqb _ _ ne) (omega (arith, rw (zero-add n) at nil)))
       (eq-or-ne a ceilingSymbol)
 
@@ -123,3 +126,14 @@ module _ (x : List ℕ) (a k : ℕ) (other : a ≡ ceilingSymbol → ⊥) where
       (λ (h : k < recent).
       held-fails y (length x) (omega (arith, size)) (omega (arith, size)) (λ e. other (sym (getD-append-seam x a (flat k) 0) ∙ e)) ∙ sym (lt-leb _ _ h))
       (le-or-lt recent k)
+
+-- every log is of one of the two kinds
+pub every-log : (z : List ℕ) → (z ≡ flat (length z)) ⊎ ((x : List ℕ) × (a : ℕ) × (k : ℕ) × (a ≡ ceilingSymbol → ⊥) × (z ≡ x ++ (a ∷ flat k)))
+every-log [] = inl refl
+every-log (c ∷ z) = ⊎-elim
+    (λ (e : z ≡ flat (length z)). ⊎-elim
+    (λ (d : c ≡ ceilingSymbol). inl (ap (λ (v : ℕ). v ∷ z) d ∙ ap (λ (l : List ℕ). ceilingSymbol ∷ l) e))
+    (λ (ne : c ≡ ceilingSymbol → ⊥). inr ([], c, length z, ne, ap (λ (l : List ℕ). c ∷ l) e))
+    (eq-or-ne c ceilingSymbol))
+    (λ r. inr (c ∷ r .0, r .1, r .2, r .3, ap (λ (l : List ℕ). c ∷ l) (r .4)))
+    (every-log z)

@@ -30,48 +30,48 @@ module _ (symbol count : ℕ) where
 
 pub record Counted (x : List ℕ) (p count : ℕ) : Type 0 where
   pub within : p ≤ length x
-  pub number : count ≡ howMany (C.there x) p
+  pub number : count ≡ howMany (C.atCeiling x) p
 
 pub counted-none : (x : List ℕ) → Counted x 0 0
 counted-none x = record { within = omega arith; number = sym (howMany-zero _) }
 
 module _ {x : List ℕ} {p count : ℕ} (w : Counted x p count) where
   pub counted-fits : p < length x → length x < 2 ^ 64 → count + 1 ≤ 18446744073709551615
-  counted-fits h l = omega (arith, w .number, howMany-le (C.there x) p)
+  counted-fits h l = omega (arith, w .number, howMany-le (C.atCeiling x) p)
 
   pub counted-more : (r : ℕ) → p < length x → r ≡ cond (eqb (getD x p 0) ceilingSymbol) (count + 1) count → Counted x (p + 1) r
   counted-more r h e = record {
     within = omega arith;
-    number = rw e (cond-case (λ (n : ℕ). n ≡ howMany (C.there x) (p + 1)) (eqb (getD x p 0) ceilingSymbol)
-        (λ t. omega (arith, w .number, howMany-hit (C.there x) p t))
-        (λ t. w .number ∙ sym (howMany-miss (C.there x) p t)));
+    number = rw e (cond-case (λ (n : ℕ). n ≡ howMany (C.atCeiling x) (p + 1)) (eqb (getD x p 0) ceilingSymbol)
+        (λ t. omega (arith, w .number, howMany-hit (C.atCeiling x) p t))
+        (λ t. w .number ∙ sym (howMany-miss (C.atCeiling x) p t)));
   }
 
   pub counted-done : length x ≤ p → count ≡ C.ceiling x
   unfolding C.ceiling
-  counted-done h = w .number ∙ ap (howMany (C.there x)) (omega (arith, w .within))
+  counted-done h = w .number ∙ ap (howMany (C.atCeiling x)) (omega (arith, w .within))
 
-pub record Full (x : List ℕ) (p : ℕ) : Type 0 where
+pub record Stuck (x : List ℕ) (p : ℕ) : Type 0 where
   pub within : p ≤ length x
   pub each : (k : ℕ) → k < p → getD x k 0 ≡ ceilingSymbol
 
-pub full-none : (x : List ℕ) → Full x 0
-full-none x = record { within = omega arith; each = λ k l. absurd (omega arith) }
+pub stuck-none : (x : List ℕ) → Stuck x 0
+stuck-none x = record { within = omega arith; each = λ k l. absurd (omega arith) }
 
-module _ {x : List ℕ} {p : ℕ} (w : Full x p) where
-  pub full-fails : p < length x → (getD x p 0 ≡ ceilingSymbol → ⊥) → false ≡ C.full x
-  unfolding C.full
-  full-fails h ne = sym (all-fails _ (length x) p h (ne-eqb _ _ ne))
+module _ {x : List ℕ} {p : ℕ} (w : Stuck x p) where
+  pub stuck-fails : p < length x → (getD x p 0 ≡ ceilingSymbol → ⊥) → false ≡ C.stuck x
+  unfolding C.stuck
+  stuck-fails h ne = sym (all-fails _ (length x) p h (ne-eqb _ _ ne))
 
-  pub full-more : p < length x → getD x p 0 ≡ ceilingSymbol → Full x (p + 1)
-  full-more h e = record {
+  pub stuck-more : p < length x → getD x p 0 ≡ ceilingSymbol → Stuck x (p + 1)
+  stuck-more h e = record {
     within = omega arith;
     each = λ k l. ⊎-elim (λ (z : k ≡ p). rw z e) (λ (u : k < p). w .each k u) (eq-or-lt-of-le (omega arith));
   }
 
-  pub full-done : length x ≤ p → true ≡ C.full x
-  unfolding C.full
-  full-done h = sym (at-all _ (length x) (λ k l. eq-eqb _ _ (w .each k (omega arith))))
+  pub stuck-done : length x ≤ p → true ≡ C.stuck x
+  unfolding C.stuck
+  stuck-done h = sym (at-all _ (length x) (λ k l. eq-eqb _ _ (w .each k (omega arith))))
 
 -- ---- `latest`
 
@@ -89,10 +89,10 @@ module _ (x : List ℕ) where
 -- ---- `held` and `of`
 
 module _ (x : List ℕ) where
-  module _ {y : List ℕ} {b : Bool} (part : y ≡ C.latest x) (e : b ≡ C.full y) where
+  module _ {y : List ℕ} {b : Bool} (part : y ≡ C.latest x) (e : b ≡ C.stuck y) where
     is-held : b ≡ C.held x
     unfolding C.held
-    is-held = e ∙ ap C.full part
+    is-held = e ∙ ap C.stuck part
 
     pub held-yes : b ≡ true → _≡_ {A = ℕ} 1 (cond (C.held x) 1 0)
     held-yes t = rw (← is-held, t)
@@ -102,7 +102,7 @@ module _ (x : List ℕ) where
 
   pub ceiling-fits : {k : ℕ} → length x ≤ longest → k ≡ C.ceiling x → Fits w16 k
   unfolding C.ceiling
-  ceiling-fits h e = omega (arith, howMany-le (C.there x) (length x))
+  ceiling-fits h e = omega (arith, howMany-le (C.atCeiling x) (length x))
 
   pub of-is : {h k : ℕ} → h ≡ cond (C.held x) 1 0 → k ≡ C.ceiling x → record { number = 0; held = h; ceiling = k } ≡ C.ceilingOf x
   unfolding C.ceilingOf

@@ -1,4 +1,4 @@
--- How a log stands to the ceiling: how many of its readings are there, and whether the head is held there now. Assumes nothing.
+-- How a log stands to the ceiling: how many of its readings are at it, and whether the head is held there now. Assumes nothing.
 use mathlib.Core.Bool.{Bool, cond}
 use mathlib.Core.List.{List}
 use Prim.Native.Nat.{ℕ, _-_}
@@ -11,15 +11,16 @@ use Rattle.words.specs.PlantFile.{ceilingSymbol}
 use Rattle.ceilings.specs.declared.Ceiling.{Ceiling}
 
 -- the reading after the first p is at the ceiling
-abbrev pub there : List ℕ → ℕ → Bool
-there x p = eqb (getD x p 0) ceilingSymbol
+abbrev pub atCeiling : List ℕ → ℕ → Bool
+atCeiling x p = eqb (getD x p 0) ceilingSymbol
 
--- how many readings of a log are; all of them are
+-- how many readings of a log are
 unfoldable pub ceiling : List ℕ → ℕ
-ceiling x = howMany (there x) (length x)
+ceiling x = howMany (atCeiling x) (length x)
 
-unfoldable pub full : List ℕ → Bool
-full x = all (there x) (length x)
+-- every reading of it is
+unfoldable pub stuck : List ℕ → Bool
+stuck x = all (atCeiling x) (length x)
 
 -- how many of the last readings say where the head stands now
 abbrev pub recent : ℕ
@@ -31,7 +32,7 @@ latest x = drop (length x - recent) x
 
 -- the head is held at the ceiling now
 unfoldable pub held : List ℕ → Bool
-held x = full (latest x)
+held x = stuck (latest x)
 
 -- What the call answers on a log that it accepts, and on any
 unfoldable pub ceilingOf : List ℕ → Ceiling

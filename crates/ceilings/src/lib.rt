@@ -1,4 +1,4 @@
-// Floor 2: how a log stands to the ceiling: how many of its readings are there, and whether the head is held there now. The definitions stand in specs/.
+// Floor 2: how a log stands to the ceiling: how many of its readings are at it, and whether the head is held there now. The definitions stand in specs/.
 ghost use mathlib.Core.Path.{_≡_};
 ghost use mathlib.Core.Bool.{cond};
 ghost use Prim.Native.Nat.{_+_, _≤_};
@@ -11,7 +11,7 @@ ghost use Rattle.ceilings.specs.Ceilings as Ceilings;
 // How many of the last readings say where the head stands now (`recent` of specs/).
 pub const RECENT: usize = 60;
 
-// held is 1 where the head is held at the ceiling now, else 0; ceiling is how many readings are there.
+// held is 1 where the head is held at the ceiling now, else 0; ceiling is how many readings are at it.
 #[repr(C)]
 pub struct Ceiling {
     pub number: u8,
@@ -19,7 +19,6 @@ pub struct Ceiling {
     pub ceiling: u16,
 }
 
-// One more where the symbol is the ceiling's.
 fn one_more(count: usize, symbol: u8) -> usize
     requires { ⌜ count + 1 ≤ 18446744073709551615 ⌝ }
     ensures { λ r. ⌜ r ≡ cond (eqb symbol ceilingSymbol) (count + 1) count ⌝ }
@@ -43,9 +42,8 @@ fn count(x: &[u8]) -> usize
     count
 }
 
-// Whether every reading is at the ceiling.
-fn all(x: &[u8]) -> bool
-    ensures { λ r. ⌜ r ≡ Ceilings.full (now (x .entry)) ⌝ }
+fn stuck(x: &[u8]) -> bool
+    ensures { λ r. ⌜ r ≡ Ceilings.stuck (now (x .entry)) ⌝ }
 {
     let mut p = 0;
     while p < x.len() {
@@ -62,19 +60,19 @@ fn latest(x: &[u8]) -> &[u8]
     ensures { λ r. ⌜ now r ≡ Ceilings.latest (now (x .entry)) ⌝ }
 {
     let end = x.len();
-    if end < RECENT {
-        return x;
+    if RECENT <= end {
+        return &x[end - RECENT..end];
     }
-    &x[end - RECENT..end]
+    x
 }
 
 fn held(x: &[u8]) -> u8
     ensures { λ r. ⌜ r ≡ cond (Ceilings.held (now (x .entry))) 1 0 ⌝ }
 {
-    if all(latest(x)) { 1 } else { 0 }
+    if stuck(latest(x)) { 1 } else { 0 }
 }
 
-// How a log stands that is not too long.
+// How a log that is not too long stands to the ceiling.
 pub fn of(x: &[u8]) -> Ceiling
     requires { ⌜ length (now x) ≤ longest ⌝ }
     ensures { λ r. ⌜ r ≡ Ceilings.ceilingOf (now (x .entry)) ⌝ }

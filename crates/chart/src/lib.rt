@@ -31,7 +31,7 @@ path{fill:none;stroke:none}
 .readings{fill:#0b5394;fill-opacity:.14;stroke:#0b5394;stroke-linejoin:round}
 .stuck{fill:#f0a0ab}
 .ceiling{stroke:#b00020;stroke-width:200;stroke-dasharray:900 500}
-.held{fill:#b00020;stroke:#b00020;stroke-width:100}
+.top{fill:#b00020;stroke:#b00020;stroke-width:100}
 .pattern{fill:#0072b2}
 .missed{fill:#e69f00;stroke:#e69f00;stroke-width:100}
 </style>
@@ -92,7 +92,7 @@ fn stuck(out: &mut [u8], pen: Pen, x: &[u8]) -> Pen {
     let p = say(
         out,
         p,
-        b"'/>\n<path class='ceiling' d='M0 3000H100000'/>\n<path class='held' d='",
+        b"'/>\n<path class='ceiling' d='M0 3000H100000'/>\n<path class='top' d='",
     );
     let p = strokes::enclose_runs(out, p, x, words::CEILING, 2600, 3400);
     say(out, p, b"'/>\n")

@@ -27,7 +27,8 @@ pub fn draw(
     let q = wide(r.best);
     let p = chart::draw(out, x, q);
     let p = chart::name_lanes(out, p, q, wide(r.count), n);
-    let p = legend::alarm(out, p, n, r.ceiling, marks::last_run(x, words::CEILING));
+    let c = r.ceiling;
+    let p = legend::alarm(out, p, x, c.ceiling);
     let p = legend::report(out, p, n, cover_lens, weighed_lens, r);
     say(out, p, b"</svg>\n")
 }

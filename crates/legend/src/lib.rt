@@ -1,4 +1,7 @@
-// Floor 4: what a picture says in words: the band under its title, and the report below the chart.
+// Floor 4: what stands around the chart: the band under the picture's title, and the report below.
+ghost use Prim.Native.Nat.{_≤_};
+ghost use lib.ListN.{length};
+ghost use Rattle.words.specs.Refusals.{longest};
 use ceilings::Ceiling;
 use pen::Pen;
 use pen::put;
@@ -16,41 +19,33 @@ pub struct Numbers {
 
 // ---- the band under the title: how the readings stand to the ceiling
 
-// The band's words in their frame.
-fn framed(
-    out: &mut [u8],
-    pen: Pen,
-    n: usize,
-    c: Ceiling,
-    last: usize,
-    before: &[u8],
-    after: &[u8],
-) -> Pen {
+// The band's words in a frame.
+fn framed(out: &mut [u8], pen: Pen, x: &[u8], before: &[u8], after: &[u8]) -> Pen
+    requires { ⌜ length (now x) ≤ longest ⌝ }
+{
     let p = say(out, pen, before);
-    let p = wording::band(out, p, n, c, last);
+    let p = wording::band(out, p, x);
     say(out, p, after)
 }
 
-// Of n readings the last ones, and no more, are in a run at the ceiling.
-pub fn alarm(out: &mut [u8], pen: Pen, n: usize, c: Ceiling, last: usize) -> Pen {
-    if c.ceiling == 0 {
+// The frame goes with the words: calm where no reading is at the ceiling, red where the log ends there. `ceiling` is how many of its readings are.
+pub fn alarm(out: &mut [u8], pen: Pen, x: &[u8], ceiling: u16) -> Pen
+    requires { ⌜ length (now x) ≤ longest ⌝ }
+{
+    if ceiling == 0 {
         return framed(
             out,
             pen,
-            n,
-            c,
-            last,
+            x,
             b"<rect x='40' y='76' width='1120' height='72' fill='#f2f2f2'/>\n<text x='60' y='119'>",
             b"</text>\n",
         );
     }
-    if last == 0 {
+    if marks::last_run(x, words::CEILING) == 0 {
         return framed(
             out,
             pen,
-            n,
-            c,
-            last,
+            x,
             b"<rect x='41' y='77' width='1118' height='70' fill='#fff' stroke='#b00020' stroke-width='2'/>
 <text class='alarm red' x='60' y='108'>",
             b"</text>\n<text class='red' x='60' y='136'>There the room may have held far more than 2000 ppm.</text>\n",
@@ -59,9 +54,7 @@ pub fn alarm(out: &mut [u8], pen: Pen, n: usize, c: Ceiling, last: usize) -> Pen
     framed(
         out,
         pen,
-        n,
-        c,
-        last,
+        x,
         b"<rect x='40' y='76' width='1120' height='72' fill='#b00020'/>\n<text class='alarm white' x='60' y='108'>",
         b"</text>\n<text class='white' x='60' y='136'>The room may hold far more than 2000 ppm.</text>\n",
     )
@@ -179,7 +172,7 @@ pub fn report(
     one(
         out,
         p,
-        b", or all of fewer, are there</text>
+        b", or all if fewer, are at 2000</text>
 <text class='report' x='40' y='852'>held<tspan x='144'>",
         c.held as usize,
     )

@@ -14,7 +14,6 @@ use mir.Syntax.{w64}
 use mir.Val.{Fits}
 use Rattle.words.specs.Search.{any}
 use Rattle.words.specs.Refusals.{Refusal, firstNo, longest, logNo}
-use Rattle.words.specs.Answers.{accepted}
 use Rattle.words.specs.PlantFile as F
 use Rattle.words.proofs.Tests.{le-or-lt}
 use Rattle.words.proofs.Search.{any-none, some-any}

@@ -37,8 +37,8 @@ outAfterNumber out p piece n = outAfter (outAfter out p piece) (penAfter (length
 unfoldable pub textOf : List ℕ → Pen → List ℕ
 textOf out p = cond (takes (length out) p 0) (take (p .at) out) []
 
--- What pieces together come to: where the pen fits after a text, it did before, and the text stands behind what was there
+-- What pieces together come to, as a text: it fits exactly where one piece of its length would be put, and then stands behind what was there
 pub record Said (out : List ℕ) (p : Pen) (text out′ : List ℕ) (p′ : Pen) : Type 0 where
   pub kept : length out′ ≡ length out
-  pub fitted : p′ .fits ≡ true → p .fits ≡ true
+  pub fits : p′ .fits ≡ takes (length out) p (length text)
   pub put : p′ .fits ≡ true → Put out (p .at) text out′ (p′ .at)

@@ -314,19 +314,21 @@ pub fn total(x: &[u8]) -> usize {
 
 const CEILING: u8 = 20;
 
-// How many readings are at the ceiling.
+const RECENT: usize = 60;
+
+// How many readings are at the ceiling: all but the others.
 pub fn ceiling(x: &[u8]) -> usize {
-    let mut count = 0;
+    let mut others = 0;
     for p in 0..x.len() {
-        count += one_if(x[p] == CEILING);
+        others += one_if(x[p] != CEILING);
     }
-    count
+    x.len() - others
 }
 
 // Held: none of the last sixty readings, or of fewer, is another than the ceiling's. Each reading is asked how many there are from it to the end.
 pub fn held(x: &[u8]) -> bool {
     for p in 0..x.len() {
-        if (x.len() - p <= 60) & (x[p] != CEILING) {
+        if (x.len() - p <= RECENT) & (x[p] != CEILING) {
             return false;
         }
     }

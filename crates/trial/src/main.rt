@@ -35,8 +35,11 @@ fn some_files(t: Tally) -> Tally {
 }
 
 fn about_the_ceiling(t: Tally) -> Tally {
-    trial_ceilings::all(t.begin(
-        b"all logs to 124 readings that are at the ceiling but for none, one or two of them, ceiling:",
+    let a = trial_ceilings::all(t.begin(
+        b"all logs to 124 readings that are 20 but for none, one that is 21, or two, 19 and then 21, ceiling:",
+    ));
+    trial_ceilings::long(a.begin(
+        b"logs of 4095 to 4097 readings that are 20 but for one of the last 62, ceiling:",
     ))
 }
 

@@ -1,56 +1,36 @@
--- What each way through the functions comes to: the words that its tests pick. Assumes nothing.
-use mathlib.Core.Bool.{cond}
+-- What each way through the functions comes to: the words that its test picks. Assumes nothing.
 use mathlib.Core.Path.{_≡_}
-use mathlib.Core.List.{List, _++_}
-use Prim.Native.Nat.{ℕ, _≤_, _<_}
-use borrow.Author.Tests.{eq-eqb, ne-eqb, lt-ltb, le-ltb}
+use mathlib.Core.List.{List, []}
+use Prim.Native.Nat.{ℕ}
+use lib.ListN.{length}
+use borrow.Author.Tests.{eq-eqb, ne-eqb}
+use Rattle.words.specs.PlantFile.{ceilingSymbol}
+use Rattle.lines.specs.Text.{decimal}
 use Rattle.ceilings.specs.declared.Ceiling.{Ceiling}
-use Rattle.lines.specs.Text.{bytes, decimal}
+use Rattle.ceilings.specs.Ceilings.{ceilingOf}
+use Rattle.marks.specs.Marks.{LastRun}
 use Rattle.pen.specs.declared.Pen.{Pen}
-use Rattle.pen.specs.Pens.{Said}
-use Rattle.pen.proofs.Meaning.{said-said}
-use Rattle.wording.specs.Wording as W
+use Rattle.pen.specs.Pens.{penAfterNumber, outAfterNumber, Said}
+use Rattle.pen.proofs.Meaning.{said-number}
+use Rattle.wording.specs.Wording.{pick, told, band}
+use Rattle.wording.proofs.Meaning.{lastRun-is}
 
-module _ (n : ℕ) {out out′ : List ℕ} {p r : Pen} where
-  pub readings-one : n ≡ 1 → Said out p (bytes " reading") out′ r → Said out p (W.readings n) out′ r
-  unfolding W.readings
-  readings-one e s = rw (eq-eqb n 1 e) s
+module _ (n m : ℕ) (s t : List ℕ) {out out′ : List ℕ} {p r : Pen} where
+  pub pick-first : n ≡ m → Said out p s out′ r → Said out p (pick n m s t) out′ r
+  unfolding pick
+  pick-first e a = rw (eq-eqb n m e) a
 
-  pub readings-more : (n ≡ 1 → ⊥) → Said out p (bytes " readings") out′ r → Said out p (W.readings n) out′ r
-  unfolding W.readings
-  readings-more e s = rw (ne-eqb n 1 e) s
+  pub pick-second : (n ≡ m → ⊥) → Said out p t out′ r → Said out p (pick n m s t) out′ r
+  unfolding pick
+  pick-second e a = rw (ne-eqb n m e) a
 
-  pub kind-held : n ≡ 1 → Said out p (bytes "HELD AT CEILING: ") out′ r → Said out p (W.kind n) out′ r
-  unfolding W.kind
-  kind-held e s = rw (eq-eqb n 1 e) s
+-- a number after no piece
+pub said-bare : (out : List ℕ) (p : Pen) (n : ℕ) {out′ : List ℕ} {r : Pen} → r ≡ penAfterNumber (length out) p [] n → out′ ≡ outAfterNumber out p [] n
+    → Said out p (decimal n) out′ r
+said-bare out p n e d = said-number out p [] n e d
 
-  pub kind-ends : (n ≡ 1 → ⊥) → Said out p (bytes "ENDS AT CEILING: ") out′ r → Said out p (W.kind n) out′ r
-  unfolding W.kind
-  kind-ends e s = rw (ne-eqb n 1 e) s
-
-  pub last-part : (k : ℕ) → k < n → Said out p (bytes "the last " ++ decimal k) out′ r → Said out p (W.lastOf n k) out′ r
-  unfolding W.lastOf
-  last-part k h s = rw (lt-ltb k n h) s
-
-  pub last-whole : (k : ℕ) → n ≤ k → Said out p (bytes "" ++ decimal k) out′ r → Said out p (W.lastOf n k) out′ r
-  unfolding W.lastOf
-  last-whole k h s = rw (le-ltb k n h) s
-
-  module _ (c : Ceiling) (k : ℕ) where
-    pub standing-reached : {m : ℕ} → k ≡ 0 → m ≡ c .ceiling → Said out p (bytes "REACHED CEILING: " ++ decimal m) out′ r → Said out p (W.standing n c k) out′ r
-    unfolding W.standing
-    standing-reached e d s = rw (eq-eqb k 0 e, ← d) s
-
-    pub standing-last : {mid : List ℕ} {q : Pen} → (k ≡ 0 → ⊥) → Said out p (W.kind (c .held)) mid q → Said mid q (W.lastOf n k) out′ r
-        → Said out p (W.standing n c k) out′ r
-    unfolding W.standing
-    standing-last e s t = rw (ne-eqb k 0 e) (said-said s t)
-
-    pub band-none : c .ceiling ≡ 0 → Said out p (bytes "No reading at the ceiling, 2000 ppm.") out′ r → Said out p (W.band n c k) out′ r
-    unfolding W.band
-    band-none e s = rw (eq-eqb (c .ceiling) 0 e) s
-
-    pub band-some : {mid end : List ℕ} {q s : Pen} → (c .ceiling ≡ 0 → ⊥) → Said out p (W.standing n c k) mid q → Said mid q (bytes " of " ++ decimal n) end s
-        → Said end s (W.readings n) out′ r → Said out p (W.band n c k) out′ r
-    unfolding W.band
-    band-some e a b d = rw (ne-eqb (c .ceiling) 0 e) (said-said a (said-said b d))
+-- the band over the log's own ceiling and run
+pub band-told : (x : List ℕ) {c : Ceiling} {k : ℕ} {out out′ : List ℕ} {p r : Pen} → c ≡ ceilingOf x → LastRun x ceilingSymbol k
+    → Said out p (told (length x) c k) out′ r → Said out p (band x) out′ r
+unfolding band
+band-told x e l s = rw (← e, ← lastRun-is x _ l) s

@@ -1,12 +1,11 @@
 -- The flat log: n equal readings, n at least 2. It comes out as what it is, a pattern of one reading, at every prefix. Assumes nothing.
-use mathlib.Core.Path.{_≡_, refl, sym, ap, _∙_}
+use mathlib.Core.Path.{_≡_, sym, ap, _∙_}
 use mathlib.Core.List.{List, [], _∷_, _++_}
-use mathlib.Core.Logic.{_⊎_, inl, inr, ⊎-elim}
+use mathlib.Core.Logic.{inr, ⊎-elim}
 use Prim.Native.Nat.{ℕ, zero, suc, _+_, _-_, _/_, _%_, _≤_, _<_}
 use native.Mathlib.Omega.{arith}
 use lib.Dec.{eqb}
-use lib.ListN.{length, getD, replicate, length-replicate, getD-replicate}
-use Rattle.words.specs.declared.Part.{Part}
+use lib.ListN.{getD, replicate, length-replicate, getD-replicate}
 use Rattle.words.specs.Search.{rising}
 use Rattle.words.specs.Words.{border, cover, covers, best, count, normal, coverList, weighed}
 use Rattle.words.specs.Tables.{tabulate}
@@ -17,7 +16,7 @@ use Rattle.words.proofs.Covers.{Covers, covers-iff, cover-is, cover-lt}
 use Rattle.words.proofs.Counts.{covered-le, covered-all}
 use Rattle.words.proofs.Bests.{Best, best-best, best-one}
 use Rattle.words.proofs.Weighs.{Weighs, heaviest, heaviest-lt, heaviest-most, heaviest-weighs, rest, rest-first, rest-next, rest-none}
-use Rattle.words.proofs.CoverLists.{upTo, upTo-all, upTo-none, upTo-next}
+use Rattle.words.proofs.CoverLists.{upTo, upTo-all, upTo-none}
 
 -- what a prefix of length i, at least 2, of a flat log x is
 pub record Flat (x : List ℕ) (i : ℕ) : Type 0 where

@@ -7,10 +7,10 @@ use Rattle.second.proofs.ceiling.Statement.{statement}
 use Rattle.second.proofs.ceiling.Tie as tie
 
 abbrev Inv-loop : tie.InvT-loop
-Inv-loop x count₀ p₀ p-end count p = (p-end ≡ length x) × (count ≤ p)
+Inv-loop x others₀ p₀ p-end others p = (p-end ≡ length x) × (others ≤ p) × (p ≤ p-end)
 
 abbrev μ-loop : tie.MeasureT-loop
-μ-loop x count₀ p₀ p-end count p = p-end - p
+μ-loop x others₀ p₀ p-end others p = p-end - p
 
 pub ceiling-spec : {M : Type 1} → statement M
 ceiling-spec =
@@ -21,6 +21,7 @@ ceiling-spec =
     (λ c. search needs)
     (λ c. search needs)
     (λ c κs. search needs)
+    (λ c. search needs)
     (λ c. search needs)
     (λ c. search needs)
     (λ c. search needs)

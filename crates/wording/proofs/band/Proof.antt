@@ -1,7 +1,6 @@
 -- `wording::band` meets its contract. Assumes nothing.
 use borrow.Author.Needs.{needs}
-use Rattle.pen.proofs.Meaning.{said-piece, said-number}
-use Rattle.wording.proofs.Steps.{band-none, band-some}
+use Rattle.wording.proofs.Steps.{band-told}
 use Rattle.wording.proofs.band.Statement.{statement}
 use Rattle.wording.proofs.band.Tie as tie
 
@@ -9,13 +8,8 @@ pub band-spec : {M : Type 1} → statement M
 band-spec =
     tie.close
     (tie.spec
-    (λ c. search needs)
     (λ c κs. search needs)
-    (λ c. search needs)
-    (λ c. search (band-none, said-piece))
-    (λ c κs. search needs)
-    (λ c. search needs)
     (λ c κs. search needs)
     (λ c κs. search needs)
     (λ c. search needs)
-    (λ c. search (band-some, said-number)))
+    (λ c. search band-told))

@@ -1,7 +1,7 @@
 -- `wording::kind` meets its contract. Assumes nothing.
 use borrow.Author.Needs.{needs}
 use Rattle.pen.proofs.Meaning.{said-piece}
-use Rattle.wording.proofs.Steps.{kind-held, kind-ends}
+use Rattle.wording.proofs.Steps.{pick-first, pick-second}
 use Rattle.wording.proofs.kind.Statement.{statement}
 use Rattle.wording.proofs.kind.Tie as tie
 
@@ -12,8 +12,8 @@ kind-spec =
     (λ c. search needs)
     (λ c κs. search needs)
     (λ c. search needs)
-    (λ c. search (kind-held, said-piece))
+    (λ c. search (pick-first, said-piece))
     (λ c. search needs)
     (λ c κs. search needs)
     (λ c. search needs)
-    (λ c. search (kind-ends, said-piece)))
+    (λ c. search (pick-second, said-piece)))

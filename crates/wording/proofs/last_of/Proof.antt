@@ -1,7 +1,7 @@
 -- `wording::last_of` meets its contract. Assumes nothing.
 use borrow.Author.Needs.{needs}
 use Rattle.pen.proofs.Meaning.{said-number}
-use Rattle.wording.proofs.Steps.{last-part, last-whole}
+use Rattle.wording.proofs.Steps.{pick-first, pick-second, said-bare}
 use Rattle.wording.proofs.last_of.Statement.{statement}
 use Rattle.wording.proofs.last_of.Tie as tie
 
@@ -12,8 +12,8 @@ last-of-spec =
     (λ c. search needs)
     (λ c κs. search needs)
     (λ c. search needs)
-    (λ c. search (last-part, said-number))
+    (λ c. search (pick-first, said-bare))
     (λ c. search needs)
     (λ c κs. search needs)
     (λ c. search needs)
-    (λ c. search (last-whole, said-number)))
+    (λ c. search (pick-second, said-number)))

@@ -1,7 +1,7 @@
 -- `wording::readings` meets its contract. Assumes nothing.
 use borrow.Author.Needs.{needs}
 use Rattle.pen.proofs.Meaning.{said-piece}
-use Rattle.wording.proofs.Steps.{readings-one, readings-more}
+use Rattle.wording.proofs.Steps.{pick-first, pick-second}
 use Rattle.wording.proofs.readings.Statement.{statement}
 use Rattle.wording.proofs.readings.Tie as tie
 
@@ -12,8 +12,8 @@ readings-spec =
     (λ c. search needs)
     (λ c κs. search needs)
     (λ c. search needs)
-    (λ c. search (readings-one, said-piece))
+    (λ c. search (pick-first, said-piece))
     (λ c. search needs)
     (λ c κs. search needs)
     (λ c. search needs)
-    (λ c. search (readings-more, said-piece)))
+    (λ c. search (pick-second, said-piece)))

@@ -1,7 +1,7 @@
 -- `wording::standing` meets its contract. Assumes nothing.
 use borrow.Author.Needs.{needs}
-use Rattle.pen.proofs.Meaning.{said-number}
-use Rattle.wording.proofs.Steps.{standing-reached, standing-last}
+use Rattle.pen.proofs.Meaning.{said-number, said-said}
+use Rattle.wording.proofs.Steps.{pick-first, pick-second}
 use Rattle.wording.proofs.standing.Statement.{statement}
 use Rattle.wording.proofs.standing.Tie as tie
 
@@ -10,11 +10,11 @@ standing-spec =
     tie.close
     (tie.spec
     (λ c. search needs)
+    (λ c. search needs)
+    (λ c κs. search needs)
+    (λ c. search needs)
+    (λ c. search (pick-first, said-number))
     (λ c κs. search needs)
     (λ c κs. search needs)
     (λ c. search needs)
-    (λ c. search (standing-reached, said-number))
-    (λ c κs. search needs)
-    (λ c κs. search needs)
-    (λ c. search needs)
-    (λ c. search standing-last))
+    (λ c. search (pick-second, said-said)))
