@@ -1,5 +1,5 @@
 // Floor 4: what stands around the chart: the band under the picture's title, and the report below.
-ghost use Prim.Native.Nat.{_≤_};
+ghost use Prim.Native.Nat.{_≤_, _<_};
 ghost use lib.ListN.{length};
 ghost use Rattle.words.specs.Refusals.{longest};
 use ceilings::Ceiling;
@@ -30,7 +30,7 @@ fn framed(out: &mut [u8], pen: Pen, x: &[u8], before: &[u8], after: &[u8]) -> Pe
 
 // The frame goes with the words: calm where no reading is at the ceiling, red where the log ends there. `ceiling` is how many of its readings are.
 pub fn alarm(out: &mut [u8], pen: Pen, x: &[u8], ceiling: u16) -> Pen
-    requires { ⌜ length (now x) ≤ longest ⌝ }
+    requires { ⌜ (0 < length (now x)) × (length (now x) ≤ longest) ⌝ }
 {
     if ceiling == 0 {
         return framed(
@@ -41,7 +41,7 @@ pub fn alarm(out: &mut [u8], pen: Pen, x: &[u8], ceiling: u16) -> Pen
             b"</text>\n",
         );
     }
-    if marks::last_run(x, words::CEILING) == 0 {
+    if x[x.len() - 1] != words::CEILING {
         return framed(
             out,
             pen,
