@@ -10,8 +10,8 @@ use Rattle.words.specs.declared.Weighing.{Weighing}
 use Rattle.words.specs.Words as W
 use Rattle.words.specs.Tables as T
 use Rattle.words.specs.Answers as A
-use Rattle.words.specs.PlantFile.{ceilingSymbol}
 use Rattle.ceilings.specs.Ceilings as C
+use Rattle.ceilings.proofs.Meaning.{flat}
 
 -- What may be asked of a log. `weighed i` and `limit i`: at i. `window a m k`: the table after the first k, of twelve entries 77, after that window;
 -- `windowRefused a m`: the number of a refused window, in tables of twelve entries; `bestRefused`: the number of the best pattern;
@@ -34,10 +34,6 @@ pub data Row : Type 0 where
 unfoldable pub bytes : String → List ℕ
 bytes String.[] = []
 bytes (String._∷_ c s) = code c ∷ bytes s
-
--- so many readings at the ceiling
-abbrev pub top : ℕ → List ℕ
-top n = replicate n ceilingSymbol
 
 -- what a window with five tables of twelve entries leaves
 abbrev pub twelve : List ℕ
@@ -142,11 +138,11 @@ rows =
     ∷ (weighed 28 gives 3 ∷ 1 ∷ [])
     ∷ [])
     ∷ row "no reading" [] ((ceiling gives 1 ∷ 0 ∷ 0 ∷ []) ∷ [])
-    ∷ row "1 at the ceiling" (top 1) ((ceiling gives 0 ∷ 1 ∷ 1 ∷ []) ∷ [])
+    ∷ row "1 at the ceiling" (flat 1) ((ceiling gives 0 ∷ 1 ∷ 1 ∷ []) ∷ [])
     ∷ row "1 other" (4 ∷ []) ((ceiling gives 0 ∷ 0 ∷ 0 ∷ []) ∷ [])
-    ∷ row "59 at the ceiling" (top 59) ((ceiling gives 0 ∷ 1 ∷ 59 ∷ []) ∷ [])
-    ∷ row "60 at the ceiling" (top 60) ((ceiling gives 0 ∷ 1 ∷ 60 ∷ []) ∷ [])
-    ∷ row "1 other and then 59" (4 ∷ top 59) ((ceiling gives 0 ∷ 0 ∷ 59 ∷ []) ∷ [])
-    ∷ row "1 other and then 60" (4 ∷ top 60) ((ceiling gives 0 ∷ 1 ∷ 60 ∷ []) ∷ [])
-    ∷ row "60 and then 1 other" (top 60 ++ (4 ∷ [])) ((ceiling gives 0 ∷ 0 ∷ 60 ∷ []) ∷ [])
+    ∷ row "59 at the ceiling" (flat 59) ((ceiling gives 0 ∷ 1 ∷ 59 ∷ []) ∷ [])
+    ∷ row "60 at the ceiling" (flat 60) ((ceiling gives 0 ∷ 1 ∷ 60 ∷ []) ∷ [])
+    ∷ row "1 other and then 59" (4 ∷ flat 59) ((ceiling gives 0 ∷ 0 ∷ 59 ∷ []) ∷ [])
+    ∷ row "1 other and then 60" (4 ∷ flat 60) ((ceiling gives 0 ∷ 1 ∷ 60 ∷ []) ∷ [])
+    ∷ row "60 and then 1 other" (flat 60 ++ (4 ∷ [])) ((ceiling gives 0 ∷ 0 ∷ 60 ∷ []) ∷ [])
     ∷ []

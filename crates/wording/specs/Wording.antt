@@ -28,10 +28,10 @@ lastOf n k = pick k n (decimal k) (bytes "the last " ++ decimal k)
 abbrev pub standing : ℕ → Ceiling → ℕ → List ℕ
 standing n c k = pick k 0 (bytes "REACHED CEILING: " ++ decimal (c .ceiling)) (kind (c .held) ++ lastOf n k)
 
--- the same as a part of all n, or that there is none
 abbrev pub ofAll : ℕ → List ℕ
 ofAll n = bytes " of " ++ decimal n ++ readings n
 
+-- the same as a part of all n; or that no reading is
 abbrev pub told : ℕ → Ceiling → ℕ → List ℕ
 told n c k = pick (c .ceiling) 0 (bytes "No reading at the ceiling, 2000 ppm.") (standing n c k ++ ofAll n)
 
