@@ -4,6 +4,7 @@ ghost use mathlib.Core.List.{[], _∷_};
 ghost use Rattle.words.specs.Tables.{borderRow, prefixRow, coverRow};
 ghost use Rattle.words.specs.Answers as Answers;
 ghost use Rattle.ceilings.specs.Ceilings.{ceilingAnswer};
+ghost use Rattle.repeats.specs.Repeats.{leftCoverRow, leftCountRow, leftSeedRow, seedCountRow};
 ghost use Rattle.cabinet.specs.Faces.{coversOf, patternSpan, fileSpan};
 
 // The cover test: covers is 1 for yes and 0 for no, and 0 where the call is refused.
@@ -67,6 +68,24 @@ pub extern "C" fn finder_window(
     ensures { λ r. ⌜ record { answer = r; tables = now (border .exit) ∷ now (prefix .exit) ∷ now (cover .exit) ∷ now (best .exit) ∷ now (count .exit) ∷ [] } ≡ Answers.windowOutcome (now (x .entry)) a m (now (border .entry)) (now (prefix .entry)) (now (cover .entry)) (now (best .entry)) (now (count .entry)) ⌝ }
 {
     finder::window(x, a, m, border, prefix, cover, best, count)
+}
+
+#[no_mangle]
+pub extern "C" fn finder_left_covers(
+    x: &[u8],
+    best: &mut [u16],
+    count: &mut [u16],
+) -> words::Written
+    ensures { λ r. ⌜ record { answer = r; tables = now (best .exit) ∷ now (count .exit) ∷ [] } ≡ Answers.pairOutcome leftCoverRow leftCountRow (now (x .entry)) (now (best .entry)) (now (count .entry)) ⌝ }
+{
+    finder::left_covers(x, best, count)
+}
+
+#[no_mangle]
+pub extern "C" fn finder_left_seeds(x: &[u8], best: &mut [u16], count: &mut [u16]) -> words::Written
+    ensures { λ r. ⌜ record { answer = r; tables = now (best .exit) ∷ now (count .exit) ∷ [] } ≡ Answers.pairOutcome leftSeedRow seedCountRow (now (x .entry)) (now (best .entry)) (now (count .entry)) ⌝ }
+{
+    finder::left_seeds(x, best, count)
 }
 
 #[no_mangle]

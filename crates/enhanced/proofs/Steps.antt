@@ -108,8 +108,8 @@ way-used {x} {j = j} y r s = omega (arith, y .number, used-places x (j + 1) (ome
 
 pub way-done : {x : List ℕ} {j w : ℕ} {b : Pick} → Way x j w b → w ≡ 0 → Judgement x j b
 way-done {x} {j} y z = record {
-  best = picked-best x (j + 1) (omega arith) (rw z at (y .picked));
-  count = picked-count x (j + 1) (omega arith) (rw z at (y .picked));
+  best = picked-best x (j + 1) (rw z at (y .picked));
+  count = picked-count x (j + 1) (rw z at (y .picked));
   used = omega (arith, rw z at (y .number), ap length (rest-none x (j + 1)));
 }
 

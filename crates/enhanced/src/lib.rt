@@ -11,14 +11,14 @@ ghost use Rattle.words.proofs.Weighs.{heaviest, heaviestRow};
 ghost use Rattle.enhanced.specs.Tallies.{Tallies, Round, Better, Judgement, Work};
 
 // The best of the borders weighed so far, the positions that it covers, and how many were weighed.
-struct Pick {
-    best: usize,
-    count: usize,
-    used: u32,
+pub struct Pick {
+    pub best: usize,
+    pub count: usize,
+    pub used: u32,
 }
 
 // The positions covered by a pattern of length w that ends at i, where k were covered up to its last end e.
-fn grown(w: usize, i: usize, e: usize, k: usize) -> usize
+pub fn grown(w: usize, i: usize, e: usize, k: usize) -> usize
     requires { ⌜ (e ≤ i) × (k + i ≤ 65536) ⌝ }
     ensures { λ r. ⌜ r ≡ k + min w (i - e) ⌝ }
 {
@@ -71,7 +71,7 @@ fn tally(x: &[u8], last: &mut [u16], held: &mut [u16], j: usize, w: usize) -> us
 }
 
 // The best border of row j, down the chain of its weighed borders, of which the longest is `longest`.
-fn weigh(
+pub fn weigh(
     x: &[u8],
     chain: &[u16],
     last: &mut [u16],

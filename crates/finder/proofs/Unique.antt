@@ -23,6 +23,10 @@ one-table f x t = unique
 pub one-enhanced : (x b c : List ℕ) {o o′ : A.Outcome Weighing} → o ≡ A.enhancedOutcome x b c → o′ ≡ A.enhancedOutcome x b c → o ≡ o′
 one-enhanced x b c = unique
 
+-- left_covers and left_seeds, with their columns
+pub one-pair : (f g : Column) (x b c : List ℕ) {o o′ : A.Outcome Written} → o ≡ A.pairOutcome f g x b c → o′ ≡ A.pairOutcome f g x b c → o ≡ o′
+one-pair f g x b c = unique
+
 pub one-window : (x : List ℕ) (a m : ℕ) (b p c e k : List ℕ) {o o′ : A.Outcome Weighing}
     → o ≡ A.windowOutcome x a m b p c e k → o′ ≡ A.windowOutcome x a m b p c e k → o ≡ o′
 one-window x a m b p c e k = unique

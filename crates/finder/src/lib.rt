@@ -2,9 +2,12 @@
 ghost use mathlib.Core.Path.{_≡_};
 ghost use mathlib.Core.List.{[], _∷_};
 ghost use denote.Ref.{ptr};
+ghost use lib.ListN.{length};
 ghost use Rattle.words.specs.Tables.{borderRow, prefixRow, coverRow};
+ghost use Rattle.words.specs.Refusals.{tableNo};
 ghost use Rattle.words.specs.Answers as Answers;
 ghost use Rattle.ceilings.specs.Ceilings.{ceilingAnswer};
+ghost use Rattle.repeats.specs.Repeats.{leftCoverRow, leftCountRow, leftSeedRow, seedCountRow};
 
 // ---- tables
 
@@ -44,11 +47,18 @@ pub fn cover_table(x: &[u8], t: &mut [u16]) -> words::Written
     words::Written { number: 0 }
 }
 
+// The number of a call that is lent two tables.
+fn two_tables(x: &[u8], best: &[u16], count: &[u16]) -> u8
+    ensures { λ k. ⌜ k ≡ tableNo (length (now (x .entry))) (length (now (best .entry)) ∷ length (now (count .entry)) ∷ []) ⌝ }
+{
+    refusals::two_tables(x.len(), best.len(), count.len())
+}
+
 // Writes Best and Count of each prefix of x into the first rows of the two tables, and returns the weighed total.
 pub fn enhanced_table(x: &[u8], best: &mut [u16], count: &mut [u16]) -> words::Weighing
     ensures { λ r. ⌜ record { answer = r; tables = now (best .exit) ∷ now (count .exit) ∷ [] } ≡ Answers.enhancedOutcome (now (x .entry)) (now (best .entry)) (now (count .entry)) ⌝ }
 {
-    let no = refusals::two_tables(x.len(), best.len(), count.len());
+    let no = two_tables(x, best, count);
     if no != 0 {
         return words::Weighing {
             number: no,
@@ -60,6 +70,30 @@ pub fn enhanced_table(x: &[u8], best: &mut [u16], count: &mut [u16]) -> words::W
         number: 0,
         total: total,
     }
+}
+
+// Writes the left cover of each prefix of x, and how many positions it covers, into the first rows of the two tables.
+pub fn left_covers(x: &[u8], best: &mut [u16], count: &mut [u16]) -> words::Written
+    ensures { λ r. ⌜ record { answer = r; tables = now (best .exit) ∷ now (count .exit) ∷ [] } ≡ Answers.pairOutcome leftCoverRow leftCountRow (now (x .entry)) (now (best .entry)) (now (count .entry)) ⌝ }
+{
+    let no = two_tables(x, best, count);
+    if no != 0 {
+        return words::Written { number: no };
+    }
+    left_covers::rows(x, best, count);
+    words::Written { number: 0 }
+}
+
+// Writes the left seed of each prefix of x, and how many positions it reaches, into the first rows of the two tables.
+pub fn left_seeds(x: &[u8], best: &mut [u16], count: &mut [u16]) -> words::Written
+    ensures { λ r. ⌜ record { answer = r; tables = now (best .exit) ∷ now (count .exit) ∷ [] } ≡ Answers.pairOutcome leftSeedRow seedCountRow (now (x .entry)) (now (best .entry)) (now (count .entry)) ⌝ }
+{
+    let no = two_tables(x, best, count);
+    if no != 0 {
+        return words::Written { number: no };
+    }
+    left_seeds::rows(x, best, count);
+    words::Written { number: 0 }
 }
 
 // ---- one prefix

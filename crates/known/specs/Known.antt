@@ -1,4 +1,4 @@
--- The strings with known results, P1 to P8, and logs at the edges of held, as one table: for each log what is asked of it, and the result. Assumes nothing.
+-- The strings with known results, P1 to P8, those of left covers and left seeds, and logs at the edges of held, as one table: for each log what is asked of it, and the result. Assumes nothing.
 use mathlib.Core.List.{List, [], _∷_, _++_, map}
 use Prim.Native.Nat.{ℕ}
 use Prim.Native.String.{String}
@@ -11,15 +11,16 @@ use Rattle.words.specs.Words as W
 use Rattle.words.specs.Tables as T
 use Rattle.words.specs.Answers as A
 use Rattle.ceilings.specs.Ceilings as C
+use Rattle.repeats.specs.Repeats as L
 use Rattle.ceilings.proofs.Meaning.{flat}
 
--- What may be asked of a log. `weighed i` and `limit i`: at i. `window a m k`: the table after the first k, of twelve entries 77, after that window;
+-- What may be asked of a log. `weighed i` and `limit i`: at i. `times i q`: how often the first q readings occur in the first i. `window a m k`: the table after the first k, of twelve entries 77, after that window;
 -- `windowRefused a m`: the number of a refused window, in tables of twelve entries; `bestRefused`: the number of the best pattern;
 -- `ceiling`: the call's number, held and the ceiling
 pub data Asked : Type 0 where
-  border prefix cover best count normal covers breakdown bestRefused ceiling : Asked
+  border prefix cover best count leftCover leftCount leftSeed seedCount normal covers breakdown bestRefused ceiling : Asked
   weighed limit : ℕ → Asked
-  windowRefused : ℕ → ℕ → Asked
+  times windowRefused : ℕ → ℕ → Asked
   window : ℕ → ℕ → ℕ → Asked
 
 infix 3 _gives_
@@ -48,6 +49,10 @@ answer x prefix = T.tabulate (T.prefixRow x) (length x)
 answer x cover = T.tabulate (T.coverRow x) (length x)
 answer x best = T.tabulate (T.bestRow x) (length x)
 answer x count = T.tabulate (T.countRow x) (length x)
+answer x leftCover = T.tabulate (L.leftCoverRow x) (length x)
+answer x leftCount = T.tabulate (L.leftCountRow x) (length x)
+answer x leftSeed = T.tabulate (L.leftSeedRow x) (length x)
+answer x seedCount = T.tabulate (L.seedCountRow x) (length x)
 answer x normal = let f = A.normalAnswer x (length x) in f .k1 ∷ f .k2 ∷ f .k ∷ []
 answer x covers = W.coverList eqb x
 answer x breakdown = let b = A.breakdownAnswer x in take (b .used) (map (λ p. p .len) (b .parts))
@@ -55,6 +60,7 @@ answer x bestRefused = A.bestPatternNo x ∷ []
 answer x ceiling = let c = C.ceilingAnswer x in c .number ∷ c .held ∷ c .ceiling ∷ []
 answer x (weighed i) = W.weighed eqb x i
 answer x (limit i) = W.limit i ∷ []
+answer x (times i q) = L.times eqb x i q ∷ []
 answer x (windowRefused a m) = windowed x a m .answer .number ∷ []
 answer x (window a m k) = getD (windowed x a m .tables) k []
 
@@ -136,6 +142,27 @@ rows =
     ∷ (covers gives 3 ∷ 28 ∷ [])
     ∷ (breakdown gives 28 ∷ 13 ∷ 5 ∷ 1 ∷ [])
     ∷ (weighed 28 gives 3 ∷ 1 ∷ [])
+    ∷ [])
+    ∷ row "left" (bytes "abaabab")
+    ((times 7 2 gives 3 ∷ [])
+    ∷ (leftCover gives 0 ∷ 0 ∷ 1 ∷ 1 ∷ 2 ∷ 3 ∷ 2 ∷ [])
+    ∷ (leftCount gives 0 ∷ 0 ∷ 2 ∷ 3 ∷ 4 ∷ 6 ∷ 6 ∷ [])
+    ∷ (leftSeed gives 0 ∷ 0 ∷ 1 ∷ 1 ∷ 2 ∷ 3 ∷ 3 ∷ [])
+    ∷ (seedCount gives 0 ∷ 0 ∷ 2 ∷ 3 ∷ 4 ∷ 6 ∷ 7 ∷ [])
+    ∷ [])
+    ∷ row "shorter seed" (bytes "abaabaab")
+    ((best gives 0 ∷ 0 ∷ 1 ∷ 1 ∷ 2 ∷ 3 ∷ 4 ∷ 5 ∷ [])
+    ∷ (count gives 0 ∷ 0 ∷ 2 ∷ 3 ∷ 4 ∷ 6 ∷ 7 ∷ 8 ∷ [])
+    ∷ (leftCover gives 0 ∷ 0 ∷ 1 ∷ 1 ∷ 2 ∷ 3 ∷ 4 ∷ 5 ∷ [])
+    ∷ (leftCount gives 0 ∷ 0 ∷ 2 ∷ 3 ∷ 4 ∷ 6 ∷ 7 ∷ 8 ∷ [])
+    ∷ (leftSeed gives 0 ∷ 0 ∷ 1 ∷ 1 ∷ 2 ∷ 3 ∷ 3 ∷ 3 ∷ [])
+    ∷ (seedCount gives 0 ∷ 0 ∷ 2 ∷ 3 ∷ 4 ∷ 6 ∷ 7 ∷ 8 ∷ [])
+    ∷ [])
+    ∷ row "flat" (flat 6)
+    ((leftCover gives 0 ∷ 1 ∷ 1 ∷ 1 ∷ 1 ∷ 1 ∷ [])
+    ∷ (leftCount gives 0 ∷ 2 ∷ 3 ∷ 4 ∷ 5 ∷ 6 ∷ [])
+    ∷ (leftSeed gives 0 ∷ 1 ∷ 1 ∷ 1 ∷ 1 ∷ 1 ∷ [])
+    ∷ (seedCount gives 0 ∷ 2 ∷ 3 ∷ 4 ∷ 5 ∷ 6 ∷ [])
     ∷ [])
     ∷ row "no reading" [] ((ceiling gives 1 ∷ 0 ∷ 0 ∷ []) ∷ [])
     ∷ row "1 at the ceiling" (flat 1) ((ceiling gives 0 ∷ 1 ∷ 1 ∷ []) ∷ [])

@@ -1,2 +1,2 @@
-mod Files
-mod Rowing
+pub mod Files
+pub mod Rowing

@@ -1,10 +1,10 @@
 -- The texts that the programs `report` and `rows` write. Assumes nothing.
-use mathlib.Core.List.{List, [], _∷_, _++_}
+use mathlib.Core.List.{List, [], _∷_, _++_, map}
 use Prim.Native.Nat.{ℕ, zero, suc, _+_, _*_, _≤_, _<_}
 use lib.Dec.{eqb}
 use lib.ListN.{length}
 use Rattle.words.specs.Words.{total}
-use Rattle.words.specs.Tables.{borderRow, prefixRow, coverRow, bestRow, countRow}
+use Rattle.words.specs.Tables.{Column, borderRow, prefixRow, coverRow, bestRow, countRow}
 use Rattle.words.specs.Refusals.{longest}
 use Rattle.words.specs.Answers.{answer}
 use Rattle.words.specs.PlantFile.{fileNo, symbols}
@@ -16,17 +16,20 @@ use Rattle.facts.specs.Report.{refusedText}
 unfoldable pub fileText : (List ℕ → List ℕ) → List ℕ → List ℕ
 fileText text f = answer (fileNo f) (text (symbols f)) refusedText
 
--- row r of a log x, from 0: the prefix's length, and what the five columns say of it
-unfoldable pub rowLine : List ℕ → ℕ → List ℕ
-rowLine x r = line (decimal (r + 1)) (borderRow x r ∷ prefixRow x r ∷ coverRow x r ∷ bestRow x r ∷ countRow x r ∷ [])
+-- row r of a log x, from 0: the prefix's length, and what each column says of it
+unfoldable pub rowLine : List Column → List ℕ → ℕ → List ℕ
+rowLine cs x r = line (decimal (r + 1)) (map (λ f. f x r) cs)
 
-unfoldable pub rowLines : List ℕ → ℕ → List ℕ
-rowLines x zero = []
-rowLines x (suc r) = rowLines x r ++ rowLine x r
+unfoldable pub rowLines : List Column → List ℕ → ℕ → List ℕ
+rowLines cs x zero = []
+rowLines cs x (suc r) = rowLines cs x r ++ rowLine cs x r
 
--- all rows, and the weighed total
+-- all rows of the five columns, and the weighed total
+abbrev pub five : List Column
+five = borderRow ∷ prefixRow ∷ coverRow ∷ bestRow ∷ countRow ∷ []
+
 unfoldable pub rowsText : List ℕ → List ℕ
-rowsText x = rowLines x (length x) ++ line (bytes "total") (total eqb x ∷ [])
+rowsText x = rowLines five x (length x) ++ line (bytes "total") (total eqb x ∷ [])
 
 -- the room of a row, and of a row for each reading of the longest log and the total's line
 abbrev pub rowRoom : ℕ

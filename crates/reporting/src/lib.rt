@@ -1,5 +1,5 @@
 // Floor 4: the bodies of the programs `report` and `rows`. A file's way: bytes, number, symbols, answers, text; the text is written once.
-mod table;
+pub mod table;
 
 ghost use Prim.Native.Nat.{_≤_};
 ghost use lib.ListN.{length};

@@ -4,13 +4,13 @@ use mathlib.Core.Path.{_≡_, sym, ap, _∙_}
 use mathlib.Core.List.{List}
 use mathlib.Core.Logic.{⊎-elim}
 use Prim.Native.Nat.{ℕ, _+_, _-_, _≤_, _<_, min}
-use native.Mathlib.Nat.{eq-or-lt-of-le, zero-add}
+use native.Mathlib.Nat.{eq-or-lt-of-le, zero-add, le-trans}
 use native.Mathlib.Omega.{arith}
 use lib.Dec.{eqb}
 use Rattle.words.specs.Search.{howMany}
 use Rattle.words.specs.Words.{inside, covered}
 use Rattle.words.proofs.Tests.{not-passed, both-ways, le-or-lt}
-use Rattle.words.proofs.Search.{howMany-zero, howMany-all, howMany-none, howMany-le, some-howMany, howMany-same, howMany-mono}
+use Rattle.words.proofs.Search.{howMany-zero, howMany-all, howMany-none, howMany-le, howMany-full, howMany-longer, some-howMany, howMany-same, howMany-mono}
 use Rattle.words.proofs.Occurrences.{Occurs, Reflexive, occurs-through}
 use Rattle.words.proofs.Borders.{Border}
 use Rattle.words.proofs.Covers.{Inside, Covers, inside-iff, inside-wider, covers-self}
@@ -45,6 +45,18 @@ module _ (ag : ℕ → ℕ → Bool) (x : List ℕ) where
       let full = howMany-all (inside ag x i q) 0 i (λ k _ l. inside-iff ag x i q k .1 (c .each k (omega arith))) in
       let e : 0 + i ≡ i = zero-add i in
       omega (arith, rw e at full, howMany-zero (inside ag x i q))
+
+  -- and who covers every position is one
+  pub all-covered : (i q : ℕ) → 0 < q → q ≤ i → covered ag x i q ≡ i → Covers ag x i q
+  unfolding covered
+  all-covered i q h l e = record { some = h; most = l; each = λ p u. inside-iff ag x i q p .0 (howMany-full (inside ag x i q) i e p u) }
+
+  -- what is covered stays covered
+  pub covered-wider : (q j i : ℕ) → j ≤ i → covered ag x j q ≤ covered ag x i q
+  unfolding covered
+  covered-wider q j i h =
+      le-trans (howMany-mono (inside ag x j q) (inside ag x i q) j (λ p _ e. inside-iff ag x i q p .1 (inside-wider ag x q j i p h (inside-iff ag x j q p .0 e))))
+      (howMany-longer (inside ag x i q) j i h)
 
   -- ---- the count step
 

@@ -40,7 +40,7 @@ module _ (a n : ℕ) where
   flat-border : (i m : ℕ) → m < i → i ≤ n → Border eqb x i m
   flat-border i m h l = record { below = h; ends = flat-occurs m (i - m) (omega arith) }
 
-  flat-covers : (i q : ℕ) → 0 < q → q ≤ i → i ≤ n → Covers eqb x i q
+  pub flat-covers : (i q : ℕ) → 0 < q → q ≤ i → i ≤ n → Covers eqb x i q
   flat-covers i q h l u = record {
     some = h;
     most = l;
@@ -59,9 +59,9 @@ module _ (a n : ℕ) where
 
     bests : Best eqb x i 1 i
     bests = record {
-      most = λ m _ _. covered-le eqb x i m;
-      least = λ m l _ _. l;
-      is = inr (omega arith, flat-border i 1 (omega arith) within, sym (covered-all eqb x i 1 (flat-covers i 1 (omega arith) (omega arith) within)));
+      most = λ m _. covered-le eqb x i m;
+      least = λ m h _. h .0;
+      is = inr ((omega arith, flat-border i 1 (omega arith) within), sym (covered-all eqb x i 1 (flat-covers i 1 (omega arith) (omega arith) within)));
     }
 
     -- a pattern of one reading has no proper cover, a longer one has
@@ -101,8 +101,8 @@ module _ (a n : ℕ) where
     flat = record {
       border = borders;
       cover = cover-of i two within;
-      best = best-one eqb x i (best-best eqb x i (omega arith)) bests .0;
-      count = best-one eqb x i (best-best eqb x i (omega arith)) bests .1;
+      best = best-one eqb x i (best-best eqb x i) bests .0;
+      count = best-one eqb x i (best-best eqb x i) bests .1;
       weighed = weighs-one;
       normal = normals;
     }

@@ -2,6 +2,7 @@
 pub mod Tests
 pub mod Search
 pub mod Tables
+pub mod Tops
 pub mod Listings
 pub mod Occurrences
 pub mod Borders

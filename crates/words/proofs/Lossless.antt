@@ -11,78 +11,86 @@ use lib.Dec.{eqb, leb}
 use borrow.Author.Tests.{leb-true, leb-false}
 use Rattle.words.specs.Words.{cover, covered, best, count}
 use Rattle.words.proofs.Tests.{cond-case, le-or-lt}
+use Rattle.words.proofs.Tops.{Top, Under, top-none, top-join}
+use Rattle.words.proofs.Occurrences.{eqb-refl}
 use Rattle.words.proofs.Borders.{Border, border-trans}
-use Rattle.words.proofs.Covers.{Covers, covers-border, cover-covers, cover-lt}
-use Rattle.words.proofs.Counts.{covered-through}
-use Rattle.words.proofs.Bests.{Best, best-best, best-one}
-use Rattle.words.proofs.Weighs.{Weighs, weighs-inner, heaviest, heaviest-most}
+use Rattle.words.proofs.Covers.{Covers, covers-self, covers-through, covers-border, cover-covers, cover-lt}
+use Rattle.words.proofs.Counts.{covered-some, covered-through}
+use Rattle.words.proofs.Bests.{Nonempty, Best, best-best, best-one}
+use Rattle.words.proofs.Weighs.{Weighs, weighs-inner, heaviest, heaviest-most, heaviest-lt}
 
--- a weighed border of i, no longer than q, that covers at least as much
-pub record Stands (x : List ℕ) (i q : ℕ) : Type 0 where
+-- the shortest cover of q: it has no proper cover itself
+pub record Root (x : List ℕ) (q : ℕ) : Type 0 where
   pub len : ℕ
-  pub weighs : Weighs eqb x i len
-  pub short : len ≤ q
-  pub most : covered eqb x i q ≤ covered eqb x i len
+  pub bare : cover eqb x len ≡ 0
+  pub covers : Covers eqb x q len
 
--- it is the shortest cover of q, down the cover table
-stands-by : (x : List ℕ) (i n q : ℕ) → q ≤ n → 0 < q → Border eqb x i q → Stands x i q
-stands-by x i zero q l h b = absurd (omega arith)
-stands-by x i (suc n) q l h b =
-    let ih = stands-by x i n (cover eqb x q) in
-    let u = cover-lt eqb x q h in
+-- down the cover table
+root-by : (x : List ℕ) (n q : ℕ) → q ≤ n → 0 < q → Root x q
+root-by x zero q l h = absurd (omega arith)
+root-by x (suc n) q l h =
+    let ih = root-by x n (cover eqb x q) in
     ⊎-elim
-    (λ (z : cover eqb x q ≡ 0). record { len = q; weighs = record { some = h; border = b; bare = z }; short = omega arith; most = omega arith })
+    (λ (z : cover eqb x q ≡ 0). record { len = q; bare = z; covers = covers-self eqb x eqb-refl q h })
     (λ (c : Covers eqb x q (cover eqb x q)).
-    let s = ih (omega arith) (c .some) (border-trans x i q (cover eqb x q) b (covers-border eqb x (cover eqb x q) q c u)) in record {
-      len = s .len;
-      weighs = s .weighs;
-      short = omega (arith, s .short);
-      most = le-trans (covered-through x (cover eqb x q) q i c) (s .most);
-    })
+    let r = ih (omega (arith, cover-lt eqb x q h)) (c .some) in
+    record { len = r .len; bare = r .bare; covers = covers-through x (r .len) (cover eqb x q) q (r .covers) c })
     (cover-covers eqb x q)
 
-pub stands : (x : List ℕ) (i q : ℕ) → 0 < q → Border eqb x i q → Stands x i q
-stands x i q = stands-by x i q q (omega arith)
+pub root : (x : List ℕ) (q : ℕ) → 0 < q → Root x q
+root x q = root-by x q q (omega arith)
+
+-- of a border it is a border
+root-weighs : (x : List ℕ) (i q : ℕ) → Border eqb x i q → (r : Root x q) → Weighs eqb x i (r .len)
+root-weighs x i q b r = record {
+  some = r .covers .some;
+  border = ⊎-elim
+      (λ (e : r .len ≡ q). rw e b)
+      (λ (l : r .len < q). border-trans x i q (r .len) b (covers-border eqb x (r .len) q (r .covers) l))
+      (eq-or-lt-of-le (r .covers .most));
+  bare = r .bare;
+}
 
 -- ---- the best so far: b is the shortest of the weighed borders of i above w that cover the most, k positions; both 0 where there is none
 
-pub record Picked (x : List ℕ) (i w b k : ℕ) : Type 0 where
-  pub most : (m : ℕ) → w < m → Weighs eqb x i m → covered eqb x i m ≤ k
-  pub least : (m : ℕ) → w < m → Weighs eqb x i m → covered eqb x i m ≡ k → b ≤ m
-  pub is : ((b ≡ 0) × (k ≡ 0)) ⊎ (Weighs eqb x i b × (k ≡ covered eqb x i b))
+abbrev Above : List ℕ → ℕ → ℕ → ℕ → Type 0
+Above x i w m = (w < m) × Weighs eqb x i m
+
+abbrev pub Picked : List ℕ → ℕ → ℕ → ℕ → ℕ → Type 0
+Picked x i w = Top (Above x i w) (covered eqb x i)
 
 module _ {x : List ℕ} {i : ℕ} where
   pub picked-start : (w : ℕ) → w ≡ heaviest x i → Picked x i w 0 0
-  picked-start w e = record {
-    most = λ m l v. omega (arith, heaviest-most x i m v);
-    least = λ m l v _. omega arith;
-    is = inl (refl, refl);
-  }
+  picked-start w e = top-none (λ m v. omega (arith, v .0, heaviest-most x i m (v .1)))
 
   module _ {w b c : ℕ} (s : Picked x i w b c) (v : Weighs eqb x i w) (k : ℕ) (e : k ≡ covered eqb x i w) where
+    lower : heaviest x w < w
+    lower = heaviest-lt x w (v .some)
+
     -- above the next w are w and what is above w
-    next : (P : ℕ → Type 0) → P w → ((m : ℕ) → w < m → Weighs eqb x i m → P m) → (m : ℕ) → heaviest x w < m → Weighs eqb x i m → P m
-    next P here above m l u = ⊎-elim
+    under : (m : ℕ) → Above x i (heaviest x w) m → Under (covered eqb x i) w k m ⊎ Under (covered eqb x i) b c m
+    under m u = ⊎-elim
         (λ (g : m ≤ w). ⊎-elim
-        (λ (z : m ≡ w). rw z here)
-        (λ (g : m < w). absurd (omega (arith, heaviest-most x w m (weighs-inner x i w m (v .border) u g))))
+        (λ (z : m ≡ w). inl (rw (z, e) (omega arith), λ _. omega arith))
+        (λ (g : m < w). absurd (omega (arith, u .0, heaviest-most x w m (weighs-inner x i w m (v .border) (u .1) g))))
         (eq-or-lt-of-le g))
-        (λ (g : w < m). above m g u)
+        (λ (g : w < m). inr (s .most m (g, u .1), s .least m (g, u .1)))
         (le-or-lt m w)
 
     better : c ≤ k → Picked x i (heaviest x w) w k
-    better h = record {
-      most = next (λ m. covered eqb x i m ≤ k) (omega arith) (λ m g u. le-trans (s .most m g u) h);
-      least = next (λ m. covered eqb x i m ≡ k → w ≤ m) (λ _. omega arith) (λ m g u _. omega arith);
-      is = inr (v, e);
-    }
+    better h = top-join (inr ((lower, v), omega arith)) under (⊎-elim
+        (λ (z : c ≡ k). inr (z, ⊎-elim (λ y. absurd (omega (arith, y .1, some))) (λ u. omega (arith, u .0 .0)) (s .is)))
+        (λ (l : c < k). inl l)
+        (eq-or-lt-of-le h))
+      where
+        some : 0 < k
+        some = omega (arith, covered-some eqb x i w (v .some) (v .border))
 
     worse : k < c → Picked x i (heaviest x w) b c
-    worse h = record {
-      most = next (λ m. covered eqb x i m ≤ c) (omega arith) (λ m g u. s .most m g u);
-      least = next (λ m. covered eqb x i m ≡ c → b ≤ m) (λ z. absurd (omega arith)) (λ m g u. s .least m g u);
-      is = s .is;
-    }
+    worse h = top-join
+        (⊎-elim (λ z. inl z) (λ u. inr ((omega (arith, u .0 .0, lower), u .0 .1), omega (arith, u .1))) (s .is))
+        (λ m u. ⊎-elim (λ a. inr a) (λ a. inl a) (under m u))
+        (inl h)
 
     -- of equals the later one, which is shorter
     pub picked-next : Picked x i (heaviest x w) (cond (leb c k) w b) (max c k)
@@ -90,37 +98,51 @@ module _ {x : List ℕ} {i : ℕ} where
         (λ t. let h = leb-true c k t in let z : max c k ≡ k = omega arith in rw z (better h))
         (λ t. let h = leb-false c k t in let z : max c k ≡ c = omega arith in rw z (worse h))
 
--- the best of the weighed borders is the best of all borders
+-- the best of the weighed borders is the best of all borders: the shortest cover of a border is weighed, and covers what the border covers
+module _ (x : List ℕ) (i m : ℕ) (h : Nonempty eqb x i m) where
+  r : Root x m
+  r = root x m (h .0)
+
+  abbrev stand : ℕ
+  stand = r .len
+
+  stands : Above x i 0 stand
+  stands = (r .covers .some, root-weighs x i m (h .1) r)
+
+  stands-most : covered eqb x i m ≤ covered eqb x i stand
+  stands-most = covered-through x stand m i (r .covers)
+
+  stands-short : stand ≤ m
+  stands-short = r .covers .most
+
 pub picked-all : {x : List ℕ} {i b k : ℕ} → Picked x i 0 b k → Best eqb x i b k
 picked-all {x} {i} {b} {k} s = record {
-  most = λ m h b.
-      let r = stands x i m h b in
-      le-trans (r .most) (s .most (r .len) (r .weighs .some) (r .weighs));
-  least = λ m h b e.
-      let r = stands x i m h b in
-      let u = s .most (r .len) (r .weighs .some) (r .weighs) in
-      le-trans (s .least (r .len) (r .weighs .some) (r .weighs) (omega (arith, r .most))) (r .short);
-  is = ⊎-elim (λ z. inl z) (λ v. inr (v .0 .some, v .0 .border, v .1)) (s .is);
+  most = λ m h. le-trans (stands-most x i m h) (s .most (stand x i m h) (stands x i m h));
+  least = λ m h e.
+      let u = s .most (stand x i m h) (stands x i m h) in
+      le-trans (s .least (stand x i m h) (stands x i m h) (omega (arith, stands-most x i m h))) (stands-short x i m h);
+  is = ⊎-elim (λ z. inl z) (λ v. inr ((v .0 .1 .some, v .0 .1 .border), v .1)) (s .is);
 }
 
 -- and back: the best of all borders is weighed, and so the best of the weighed
 pub all-picked : {x : List ℕ} {i b k : ℕ} → Best eqb x i b k → Picked x i 0 b k
 all-picked {x} {i} {b} {k} s = record {
-  most = λ m h w. s .most m h (w .border);
-  least = λ m h w. s .least m h (w .border);
-  is = ⊎-elim (λ z. inl z) (λ v. inr (weighed-best v, v .2)) (s .is);
+  most = λ m h. s .most m (h .0, h .1 .border);
+  least = λ m h. s .least m (h .0, h .1 .border);
+  is = ⊎-elim (λ z. inl z) (λ v. inr (weighed-best (v .0) (v .1), v .1)) (s .is);
 }
   where
-    weighed-best : (0 < b) × Border eqb x i b × (k ≡ covered eqb x i b) → Weighs eqb x i b
-    weighed-best v =
-        let r = stands x i b (v .0) (v .1) in
-        let l = s .least (r .len) (r .weighs .some) (r .weighs .border) (omega (arith, r .most, v .2, s .most (r .len) (r .weighs .some) (r .weighs .border))) in
-        let e : r .len ≡ b = omega (arith, r .short) in
-        rw e at (r .weighs)
+    weighed-best : Nonempty eqb x i b → k ≡ covered eqb x i b → Above x i 0 b
+    weighed-best h d =
+        let w = stands x i b h in
+        let o : Nonempty eqb x i (stand x i b h) = (w .0, w .1 .border) in
+        let l = s .least (stand x i b h) o (omega (arith, stands-most x i b h, s .most (stand x i b h) o)) in
+        let e : stand x i b h ≡ b = omega (arith, stands-short x i b h) in
+        rw e at w
 
-module _ (x : List ℕ) (i : ℕ) {b k : ℕ} (h : 0 < i) (s : Picked x i 0 b k) where
+module _ (x : List ℕ) (i : ℕ) {b k : ℕ} (s : Picked x i 0 b k) where
   pub picked-best : b ≡ best eqb x i
-  picked-best = best-one eqb x i (picked-all s) (best-best eqb x i h) .0
+  picked-best = best-one eqb x i (picked-all s) (best-best eqb x i) .0
 
   pub picked-count : k ≡ count eqb x i
-  picked-count = best-one eqb x i (picked-all s) (best-best eqb x i h) .1
+  picked-count = best-one eqb x i (picked-all s) (best-best eqb x i) .1

@@ -100,7 +100,7 @@ pub record CoversAll (x : List ℕ) (i q : ℕ) : Type 0 where
   pub every : (p : ℕ) → 1 ≤ p → p ≤ i → LiesInside x i q p
 
 module _ (x : List ℕ) (i : ℕ) (within : i ≤ length x) where
-  lies-iff : (q p : ℕ) → p < i → LiesInside x i q (p + 1) ↔ Inside eqb x i q p
+  pub lies-iff : (q p : ℕ) → p < i → LiesInside x i q (p + 1) ↔ Inside eqb x i q p
   lies-iff q p h = (
     λ l. record {
       start = l .at - 1;
@@ -156,8 +156,8 @@ cover-meaning x i some r = (λ e. rw (← e) is, λ c. le-antisymm (bound is c) 
 
 -- ---- Best and Count: no nonempty border covers more, no shorter one as many; both 0 if there is none
 
-pub best-meaning : (ag : ℕ → ℕ → Bool) (x : List ℕ) (i : ℕ) → 1 ≤ i → (b k : ℕ) → ((best ag x i ≡ b) × (count ag x i ≡ k)) ↔ Best ag x i b k
-best-meaning ag x i some b k = (λ e. rw (← (e .0), ← (e .1)) (best-best ag x i some), λ s. best-one ag x i (best-best ag x i some) s)
+pub best-meaning : (ag : ℕ → ℕ → Bool) (x : List ℕ) (i b k : ℕ) → ((best ag x i ≡ b) × (count ag x i ≡ k)) ↔ Best ag x i b k
+best-meaning ag x i b k = (λ e. rw (← (e .0), ← (e .1)) (best-best ag x i), λ s. best-one ag x i (best-best ag x i) s)
 
 -- ---- Weighed list: exactly the nonempty borders that have no proper cover, longest first
 

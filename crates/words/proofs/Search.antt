@@ -4,7 +4,7 @@ use mathlib.Core.Path.{_≡_, refl, sym, ap, _∙_}
 use mathlib.Core.List.{List, [], _∷_, _++_}
 use mathlib.Core.Logic.{_⊎_, inl, inr, ⊎-elim, _↔_}
 use Prim.Native.Nat.{ℕ, zero, suc, _+_, _*_, _/_, _^_, _≤_, _<_}
-use native.Mathlib.Nat.{not-suc-le-zero, le-of-suc-le-suc, le-antisymm, le-refl, add-zero, add-suc, two-pow-succ, suc-mul}
+use native.Mathlib.Nat.{not-suc-le-zero, le-of-suc-le-suc, eq-or-lt-of-le, le-antisymm, le-refl, add-zero, add-suc, two-pow-succ, suc-mul}
 use native.Mathlib.Numerals.{add-one}
 use native.Mathlib.Omega.{arith}
 use lib.ListN.{length, getD, length-append, List·getD-append}
@@ -87,6 +87,34 @@ module _ (p : ℕ → Bool) where
   howMany-le zero = omega arith
   howMany-le (suc n) = let ih = howMany-le n in cond-case (λ (r : ℕ). r ≤ suc n) (p n) (λ _. omega arith) (λ _. omega arith)
 
+  -- a count of all has every one
+  pub howMany-full : (n : ℕ) → howMany p n ≡ n → (k : ℕ) → k < n → p k ≡ true
+  unfolding howMany
+  howMany-full zero e k h = absurd (not-suc-le-zero h)
+  howMany-full (suc n) e k h =
+      let ih = howMany-full n in
+      cond-case (λ (r : ℕ). r ≡ suc n → p k ≡ true) (p n)
+      (λ t d. last-or (λ k. p k ≡ true) n t (ih (omega arith)) k h)
+      (λ _ d. absurd (omega (arith, howMany-le n))) e
+
+  pub howMany-longer : (m n : ℕ) → m ≤ n → howMany p m ≤ howMany p n
+  unfolding howMany
+  howMany-longer m zero h = let z : m ≡ 0 = omega arith in rw z (omega arith)
+  howMany-longer m (suc n) h =
+      let ih = howMany-longer m n in ⊎-elim
+      (λ (z : m ≡ suc n). rw z (omega arith))
+      (λ (l : m < suc n). cond-case (λ (r : ℕ). howMany p m ≤ r) (p n) (λ _. omega (arith, ih (le-of-suc-le-suc l))) (λ _. ih (le-of-suc-le-suc l)))
+      (eq-or-lt-of-le h)
+
+  -- d numbers more add at most d
+  pub howMany-more : (m d : ℕ) → howMany p (m + d) ≤ howMany p m + d
+  howMany-more m zero = rw (add-zero, add-zero) (omega arith)
+  howMany-more m (suc d) =
+      let ih = howMany-more m d in
+      by-test (p (m + d))
+      (λ t. rw (add-suc, add-suc) (omega (arith, step-true (m + d) t)))
+      (λ t. rw (add-suc, add-suc) (omega (arith, step-false (m + d) t)))
+
   -- one that passes is counted, and a count that is not 0 has one
   pub some-howMany : (n k : ℕ) → k < n → p k ≡ true → 0 < howMany p n
   unfolding howMany
@@ -102,6 +130,25 @@ module _ (p : ℕ → Bool) where
   howMany-some (suc n) h =
       let ih = howMany-some n in
       cond-case (λ (r : ℕ). 0 < r → (k : ℕ) × (k < suc n) × (p k ≡ true)) (p n) (λ e _. (n, omega arith, e)) (λ _ l. let w = ih l in (w .0, omega arith, w .2)) h
+
+  -- two that pass are counted twice, and a count of two has two
+  pub two-howMany : (n s t : ℕ) → s < t → t < n → p s ≡ true → p t ≡ true → 2 ≤ howMany p n
+  unfolding howMany
+  two-howMany zero s t h l a b = absurd (not-suc-le-zero l)
+  two-howMany (suc n) s t h l a b =
+      let ih = two-howMany n in
+      last-or (λ t. (s : ℕ) → s < t → p s ≡ true → p t ≡ true → 2 ≤ cond (p n) (suc (howMany p n)) (howMany p n)) n
+      (λ s h a b. rw b (omega (arith, some-howMany n s h a)))
+      (λ t l s h a b. let i = ih s t h l a b in cond-case (λ (r : ℕ). 2 ≤ r) (p n) (λ _. omega arith) (λ _. i)) t l s h a b
+
+  pub howMany-two : (n : ℕ) → 2 ≤ howMany p n → (s t : ℕ) × (s < t) × (t < n) × (p s ≡ true) × (p t ≡ true)
+  unfolding howMany
+  howMany-two zero h = absurd (omega arith)
+  howMany-two (suc n) h =
+      let ih = howMany-two n in
+      cond-case (λ (r : ℕ). 2 ≤ r → (s t : ℕ) × (s < t) × (t < suc n) × (p s ≡ true) × (p t ≡ true)) (p n)
+      (λ e l. let w = howMany-some n (omega arith) in (w .0, n, w .1, omega arith, w .2, e))
+      (λ _ l. let w = ih l in (w .0, w .1, w .2, omega (arith, w .3), w .4, w .5)) h
 
   -- ---- the greatest
 

@@ -6,7 +6,7 @@ use native.Mathlib.Nat.{not-suc-le-zero}
 use native.Mathlib.Numerals.{add-one}
 use native.Mathlib.Omega.{arith}
 use lib.ListN.{length, getD, take, drop, set, length-append, length-drop, length-set, List·getD-append}
-use lib.Seq.{drop-cons, set-at, getD-at, getD-take, getD-drop, getD-append-add, getD-set-same, length-take-le, set-getD, drop-set-lt}
+use lib.Seq.{drop-cons, set-at, getD-at, getD-take, getD-drop, getD-append-add, getD-set-same, length-take-le, set-getD, drop-at, drop-set-lt}
 use Rattle.words.specs.Tables.{Column, tabulate, written, window, placed}
 use Rattle.words.specs.Refusals.{longest}
 use Rattle.words.proofs.Tests.{last-or}
@@ -82,6 +82,11 @@ module _ (f : ℕ → ℕ) where
         let e : length (take a t) + (r - a) ≡ r = omega (arith, front) in
         rw e at (getD-append-add (take a t) (written f m (drop a t)) (r - a) 0)
         ∙ written-stays m (drop a t) (r - a) (omega arith) ∙ getD-drop a t (r - a) 0 ∙ ap (λ (k : ℕ). getD t k 0) (omega arith)
+
+-- written twice: what the second writes
+pub written-again : (f g : ℕ → ℕ) (n : ℕ) (t : List ℕ) → written g n (written f n t) ≡ written g n t
+unfolding written
+written-again f g n t = ap (λ (y : List ℕ). tabulate g n ++ y) (drop-at (tabulate f n) (drop n t) n (length-tabulate f n))
 
 -- the window: its length and its readings
 module _ (a m : ℕ) (x : List ℕ) (fits : a + m ≤ length x) where

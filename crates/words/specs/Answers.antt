@@ -69,6 +69,12 @@ tableOutcome f x t =
     let ts : List Lent = column f x t ∷ [] in
     outcome (tableNo (length x) (rooms ts)) (record { number = 0 }) (λ k. record { number = k }) ts
 
+-- A call that writes the columns f and g into the tables b and c
+unfoldable pub pairOutcome : Column → Column → List ℕ → List ℕ → List ℕ → Outcome Written
+pairOutcome f g x b c =
+    let ts : List Lent = column f x b ∷ column g x c ∷ [] in
+    outcome (tableNo (length x) (rooms ts)) (record { number = 0 }) (λ k. record { number = k }) ts
+
 -- The weighed total of x, and none
 unfoldable pub weighing : List ℕ → Weighing
 weighing x = record { number = 0; total = total eqb x }

@@ -13,6 +13,8 @@ enhanced-table-spec =
     tie.close
     (tie.spec
     (λ c κs. search needs)
+    (λ c. search needs)
+    (λ c. search needs)
     (λ c. left-alone _ _ _ _ (search needs) (search needs))
     (λ c κs. (search (table-lent 0, table-lent 1), search (table-lent 0, table-lent 1)))
     (λ c. search needs)

@@ -2,12 +2,13 @@
 use borrow.Author.Needs.{needs}
 use Prim.Native.Nat.{_-_}
 use lib.ListN.{length}
+use Rattle.reporting.specs.Texts.{five}
 use Rattle.reporting.proofs.Rowing.{Rowed, rowed-none, rowed-row, rowed-more, rowed-said}
 use Rattle.reporting.proofs.table.rows.Statement.{statement}
 use Rattle.reporting.proofs.table.rows.Tie as tie
 
 abbrev Inv-loop : tie.InvT-loop
-Inv-loop x border prefix cover best count total text₀ end₀ r₀ t11 text end r = Rowed x text₀ text end r
+Inv-loop x border prefix cover best count total text₀ end₀ r₀ t11 text end r = Rowed five x text₀ text end r
 
 abbrev μ-loop : tie.MeasureT-loop
 μ-loop x border prefix cover best count total text₀ end₀ r₀ t11 text end r = length x - r

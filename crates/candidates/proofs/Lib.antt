@@ -1,0 +1,2 @@
+pub mod Bare
+mod Steps

@@ -1,0 +1,32 @@
+-- `candidates::bare_rows` meets its contract. The loop's invariant is `Rows`, its measure what is left of x. Assumes nothing.
+use Prim.Native.Nat.{_-_}
+use borrow.Author.Needs.{needs}
+use lib.ListN.{length}
+use Rattle.words.proofs.Tables.{Rows, rows-none, rows-length, rows-inside, rows-filled, rows-more, rows-done}
+use Rattle.candidates.specs.Candidates.{bareRow}
+use Rattle.candidates.proofs.Steps.{bare-fits}
+use Rattle.candidates.proofs.bare_rows.Statement.{statement}
+use Rattle.candidates.proofs.bare_rows.Tie as tie
+
+abbrev Inv-loop : tie.InvT-loop
+Inv-loop x cover bare₀ r₀ bare r = Rows bareRow x bare₀ bare r
+
+abbrev μ-loop : tie.MeasureT-loop
+μ-loop x cover bare₀ r₀ bare r = length x - r
+
+pub bare-rows-spec : {M : Type 1} → statement M
+bare-rows-spec =
+    tie.close
+    (tie.spec
+    Inv-loop
+    μ-loop
+    (λ c. search (needs, rows-none))
+    (λ c κs. (search needs, search rows-filled))
+    (λ c. search bare-fits)
+    (λ c. search needs)
+    (λ c. search rows-inside)
+    (λ c. search needs)
+    (λ c. search needs)
+    (λ c. search (needs, rows-more))
+    (λ c. search rows-length)
+    (λ c. search (rows-done {f = bareRow})))

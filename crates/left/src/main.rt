@@ -1,0 +1,3 @@
+fn main() {
+    left_text::left(0);
+}

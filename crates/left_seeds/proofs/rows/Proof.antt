@@ -1,0 +1,28 @@
+-- `left_seeds::rows` meets its contract. Assumes nothing.
+use borrow.Author.Needs.{needs}
+use Rattle.left_seeds.proofs.rows.Statement.{statement}
+use Rattle.left_seeds.proofs.rows.Tie as tie
+
+pub rows-spec : {M : Type 1} → statement M
+rows-spec =
+    tie.close
+    (tie.spec
+    (λ c. search needs)
+    (λ c. search needs)
+    (λ c. search needs)
+    (λ c. search needs)
+    (λ c κs. search needs)
+    (λ c. search needs)
+    (λ c. search needs)
+    (λ c. search needs)
+    (λ c. search needs)
+    (λ c. search needs)
+    (λ c. search needs)
+    (λ c. search needs)
+    (λ c κs. (
+      search needs,
+      record { covers = search needs; chains = search needs; lasts = search needs; holds = search needs; bests = search needs; counts = search needs },
+    ))
+    (λ c. search needs)
+    (λ c. search needs)
+    (λ c. search needs))
