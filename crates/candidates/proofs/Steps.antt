@@ -8,7 +8,7 @@ use native.Mathlib.Nat.{eq-or-lt-of-le, eq-zero-or-pos}
 use native.Mathlib.Omega.{arith}
 use lib.Dec.{eqb}
 use lib.ListN.{length, getD}
-use mir.Syntax.{w16}
+use mir.Syntax.{w16, w64}
 use mir.Val.{Fits}
 use Rattle.words.specs.Words.{border, cover, covered}
 use Rattle.words.specs.Tables.{borderRow, coverRow}
@@ -53,16 +53,13 @@ module _ {x c t : List ℕ} {r : ℕ} (hc : Holds coverRow x c) (f : Filled bare
 
 -- ---- `fall_at`
 
-module _ {x b t s : List ℕ} {r : ℕ} (hb : Holds borderRow x b) (ht : Holds bareRow x t) (f : Filled fallRow x s r) where
+module _ {x b s : List ℕ} {r q : ℕ} (hb : Holds borderRow x b) (f : Filled fallRow x s r) (d : q ≡ bareRow x r) where
   pub fall-first : r ≡ 0 → 0 ≡ fallRow x r
   fall-first z = sym (ap (fallRow x) z ∙ fall-zero x)
 
   module _ (nz : r ≡ 0 → ⊥) where
     pub in-border : r - 1 < length b
     in-border = omega (arith, f .inside, hb .room)
-
-    pub in-row : r < length t
-    in-row = omega (arith, f .inside, ht .room)
 
     module _ (m : ℕ) (e : m ≡ getD b (r - 1) 0) where
       is-border : m ≡ border eqb x r
@@ -71,17 +68,13 @@ module _ {x b t s : List ℕ} {r : ℕ} (hb : Holds borderRow x b) (ht : Holds b
       pub in-fall : m < length s
       in-fall = omega (arith, is-border, border-lt eqb x r (omega arith), f .inside, f .room)
 
-      module _ (q : ℕ) (d : q ≡ getD t r 0) where
-        is-bare : q ≡ bare x r
-        is-bare = d ∙ ht .rows r (f .inside)
+      pub fall-yes : m < q → m ≡ fallRow x r
+      fall-yes l = is-border ∙ sym (fall-here x r (omega arith) (omega (arith, is-border, d)))
 
-        pub fall-yes : m < q → m ≡ fallRow x r
-        fall-yes l = is-border ∙ sym (fall-here x r (omega arith) (omega (arith, is-border, is-bare)))
-
-        pub fall-no : q ≤ m → (w : ℕ) → w ≡ getD s m 0 → w ≡ fallRow x r
-        fall-no l w g =
-            g ∙ f .rows m (omega (arith, is-border, border-lt eqb x r (omega arith))) ∙ ap (fallRow x) is-border
-            ∙ sym (fall-before x r (omega arith) (omega (arith, is-border, is-bare)))
+      pub fall-no : q ≤ m → (w : ℕ) → w ≡ getD s m 0 → w ≡ fallRow x r
+      fall-no l w g =
+          g ∙ f .rows m (omega (arith, is-border, border-lt eqb x r (omega arith))) ∙ ap (fallRow x) is-border
+          ∙ sym (fall-before x r (omega arith) (omega (arith, is-border, d)))
 
 -- both fit a table's entry
 module _ (x : List ℕ) (r : ℕ) (h : r < length x) (s : length x ≤ longest) where
@@ -118,6 +111,45 @@ module _ (s : Seed) (q k m : ℕ) where
 
   pub taken-no : k < s .count → Taken s q k m s
   taken-no h = inr (h, refl)
+
+-- ---- `weighed`
+
+module _ {x l h : List ℕ} {i q : ℕ} (t : Tallies x l h i) (b : Bare x i 0 q) (u : i ≤ length x) where
+  pub in-held : q - 1 < length h
+  in-held = omega (arith, b .2 .proper, t .holds)
+
+  pub in-last : q - 1 < length l
+  in-last = omega (arith, b .2 .proper, t .lasts)
+
+  tally : Tally x q i (getD l (q - 1) 0) (getD h (q - 1) 0)
+  tally = t .each q (b .0) (omega (arith, b .2 .proper)) (b .1)
+
+  is-reached : reached eqb x i q ≡ getD h (q - 1) 0 + min (start eqb x i q) (i - getD l (q - 1) 0)
+  is-reached =
+      let e : ℕ = getD l (q - 1) 0 in
+      let stays = covered-stays eqb x q e i (tally .within) (tally .last) in
+      let all = reached-count eqb x i q e (b .0) (tally .from) (tally .within) (tally .occurs) (tally .last) in
+      omega (arith, tally .counts)
+
+  module _ (c : ℕ) (ec : c ≡ getD h (q - 1) 0) (m : ℕ) (em : m ≡ start eqb x i q) where
+    pub weighed-fits : length x ≤ longest → Fits w64 (c + m)
+    weighed-fits v = omega (arith, ec, em, tally .counts, tally .within, covered-le eqb x (getD l (q - 1) 0) q, start-lt eqb x i q (b .0), b .2 .proper)
+
+    pub weighed-small : length x ≤ longest → c + i ≤ 65536
+    weighed-small v = omega (arith, ec, tally .counts, tally .within, covered-le eqb x (getD l (q - 1) 0) q)
+
+    module _ (s : Seed) where
+      pub weighed-none : c + m < s .count → Taken s q (reached eqb x i q) m s
+      weighed-none h = inr (omega (arith, is-reached, ec, em), refl)
+
+      module _ (e : ℕ) (el : e ≡ getD l (q - 1) 0) where
+        pub weighed-early : e ≤ i
+        weighed-early = omega (arith, el, tally .within)
+
+        pub weighed-taken : (k : ℕ) → k ≡ c + min m (i - e) → {r : Seed} → Taken s q k m r → Taken s q (reached eqb x i q) m r
+        weighed-taken k ek o =
+            let z : k ≡ reached eqb x i q = omega (arith, is-reached, ek, el, ec, em) in
+            rw z at o
 
 -- ---- `best`: of the candidates longer than q the best is s, and q is the next one or 0
 
@@ -172,94 +204,81 @@ module _ {x : List ℕ} {i q m : ℕ} {s : Seed} (w : Walk x i q m s) (nz : q �
   pub walk-ready : Ready x i q m
   walk-ready = w .ready
 
-  pub in-next : i ≤ length x → {v : List ℕ} → Holds bareRow x v → q - 1 < length v
-  in-next u h = omega (arith, is-bare-now .2 .proper, h .room)
+  module _ (u : i ≤ length x) {v : List ℕ} (hv : Holds bareRow x v) where
+    pub in-next : q - 1 < length v
+    in-next = omega (arith, is-bare-now .2 .proper, hv .room)
 
-  module _ {l h : List ℕ} (t : Tallies x l h i) (u : i ≤ length x) where
-    pub in-last : q - 1 < length l
-    in-last = omega (arith, is-bare-now .2 .proper, t .lasts)
+    module _ (p : ℕ) (ep : p ≡ getD v (q - 1) 0) where
+      is-next : p ≡ bare x (q - 1)
+      is-next = ep ∙ hv .rows (q - 1) (omega (arith, is-bare-now .2 .proper))
 
-    pub in-held : q - 1 < length h
-    in-held = omega (arith, is-bare-now .2 .proper, t .holds)
+      pub walk-falls : p < q
+      walk-falls = omega (arith, is-next, bare-le x (q - 1), walk-some)
 
-    tally : Tally x q i (getD l (q - 1) 0) (getD h (q - 1) 0)
-    tally = t .each q walk-some (omega (arith, is-bare-now .2 .proper)) (is-bare-now .1)
+  pub walk-bare : Bare x i 0 q
+  walk-bare = is-bare-now
 
-    module _ (e c : ℕ) (el : e ≡ getD l (q - 1) 0) (ec : c ≡ getD h (q - 1) 0) where
-      pub grown-early : e ≤ i
-      grown-early = omega (arith, el, tally .within)
+  module _ (u : i ≤ length x) (n : ℕ) (en : n ≡ start eqb x i q) where
+    module _ {v : List ℕ} (hv : Holds bareRow x v) (p : ℕ) (ep : p ≡ getD v (q - 1) 0) where
+      next-is : p ≡ bare x (q - 1)
+      next-is = is-next u hv p ep
 
-      pub grown-small : length x ≤ longest → c + i ≤ 65536
-      grown-small v = omega (arith, ec, tally .counts, tally .within, covered-le eqb x (getD l (q - 1) 0) q)
+      falls : p < q
+      falls = walk-falls u hv p ep
 
-      module _ (n k : ℕ) (en : n ≡ start eqb x i q) (ek : k ≡ c + min n (i - e)) where
-        is-reached : k ≡ reached eqb x i q
-        is-reached =
-            let d = getD l (q - 1) 0 in
-            let stays = covered-stays eqb x q d i (tally .within) (tally .last) in
-            let all = reached-count eqb x i q d walk-some (tally .from) (tally .within) (tally .occurs) (tally .last) in
-            omega (arith, en, ek, el, ec, tally .counts)
+      ready-next : Ready x i p n
+      ready-next = record {
+        border = rw en (start-border eqb x i q (omega (arith, is-bare-now .2 .proper)));
+        most = λ j g b. rw en (start-most eqb x i q j (omega (arith, falls)) b);
+        next = λ g. bare-same x n (q - 1) (omega (arith, next-is)) (omega (arith, en, start-lt eqb x i q walk-some)) ∙ sym next-is;
+      }
 
-        module _ {v : List ℕ} (hv : Holds bareRow x v) (p : ℕ) (ep : p ≡ getD v (q - 1) 0) where
-          is-next : p ≡ bare x (q - 1)
-          is-next = ep ∙ hv .rows (q - 1) (omega (arith, is-bare-now .2 .proper))
+      bare-next : (p ≡ 0) ⊎ Bare x i 0 p
+      bare-next = ⊎-elim
+          (λ (z : p ≡ 0). inl z)
+          (λ (g : 0 < p). inr (g, rw next-is (bare-bare x (q - 1)), repeats-shorter eqb x i q p (is-bare-now .2) g (omega (arith, falls))))
+          (eq-zero-or-pos p)
 
-          pub walk-falls : p < q
-          walk-falls = omega (arith, is-next, bare-le x (q - 1), walk-some)
+      -- longer than the next candidate are q and what is longer than q
+      under : (j : ℕ) → Bare x i p j → Under (reached eqb x i) q (reached eqb x i q) j ⊎ Under (reached eqb x i) (s .len) (s .count) j
+      under j b = ⊎-elim
+          (λ (g : j ≤ q). ⊎-elim
+          (λ (z : j ≡ q). inl (rw z (omega arith), λ _. omega arith))
+          (λ (g : j < q). absurd (omega (arith, b .0, next-is, bare-most x (q - 1) j (omega arith) (b .1))))
+          (eq-or-lt-of-le g))
+          (λ (g : q < j). inr (w .top .most j (g, b .1, b .2), w .top .least j (g, b .1, b .2)))
+          (le-or-lt j q)
 
-          ready-next : Ready x i p n
-          ready-next = record {
-            border = rw en (start-border eqb x i q (omega (arith, is-bare-now .2 .proper)));
-            most = λ j g b. rw en (start-most eqb x i q j (omega (arith, walk-falls)) b);
-            next = λ g. bare-same x n (q - 1) (omega (arith, is-next)) (omega (arith, en, start-lt eqb x i q walk-some)) ∙ sym is-next;
-          }
-
-          bare-next : (p ≡ 0) ⊎ Bare x i 0 p
-          bare-next = ⊎-elim
-              (λ (z : p ≡ 0). inl z)
-              (λ (g : 0 < p). inr (g, rw is-next (bare-bare x (q - 1)), repeats-shorter eqb x i q p (is-bare-now .2) g (omega (arith, walk-falls))))
-              (eq-zero-or-pos p)
-
-          -- longer than the next candidate are q and what is longer than q
-          under : (j : ℕ) → Bare x i p j → Under (reached eqb x i) q k j ⊎ Under (reached eqb x i) (s .len) (s .count) j
-          under j b = ⊎-elim
-              (λ (g : j ≤ q). ⊎-elim
-              (λ (z : j ≡ q). inl (rw (z, is-reached) (omega arith), λ _. omega arith))
-              (λ (g : j < q). absurd (omega (arith, b .0, is-next, bare-most x (q - 1) j (omega arith) (b .1))))
-              (eq-or-lt-of-le g))
-              (λ (g : q < j). inr (w .top .most j (g, b .1, b .2), w .top .least j (g, b .1, b .2)))
-              (le-or-lt j q)
-
-          pub walk-next : {r : Seed} → Taken s q k n r → Walk x i p n r
-          walk-next {r} y = ⊎-elim
-              (λ v. rw (v .1) (record {
-                ready = ready-next;
-                next = bare-next;
-                top = top-join (inr ((walk-falls, is-bare-now .1, is-bare-now .2), omega (arith, is-reached))) under (wins (v .0));
-                starts = en;
-              }))
-              (λ v. rw (v .1) (record {
-                ready = ready-next;
-                next = bare-next;
-                top = top-join
-                    (⊎-elim (λ z. inl z) (λ g. inr ((omega (arith, g .0 .0, walk-falls), g .0 .1, g .0 .2), omega (arith, g .1))) (w .top .is))
-                    (λ j b. ⊎-elim (λ a. inr a) (λ a. inl a) (under j b))
-                    (inl (v .0));
-                starts = w .starts;
-              }))
-              y
-            where
-              wins : s .count ≤ k → (s .count < k) ⊎ ((s .count ≡ k) × (q ≤ s .len))
-              wins g = ⊎-elim
-                  (λ (z : s .count ≡ k). inr (
-                    z,
-                    ⊎-elim
-                        (λ y. absurd (omega (arith, y .1, is-reached, repeats-reached eqb x i q (is-bare-now .2))))
-                        (λ a. omega (arith, a .0 .0))
-                        (w .top .is),
-                  ))
-                  (λ (l : s .count < k). inl l)
-                  (eq-or-lt-of-le g)
+      pub walk-next : {r : Seed} → Taken s q (reached eqb x i q) n r → Walk x i p n r
+      walk-next {r} y = ⊎-elim
+          (λ v. rw (v .1) (record {
+            ready = ready-next;
+            next = bare-next;
+            top = top-join (inr ((falls, is-bare-now .1, is-bare-now .2), omega arith)) under (wins (v .0));
+            starts = en;
+          }))
+          (λ v. rw (v .1) (record {
+            ready = ready-next;
+            next = bare-next;
+            top = top-join
+                (⊎-elim (λ z. inl z) (λ g. inr ((omega (arith, g .0 .0, falls), g .0 .1, g .0 .2), omega (arith, g .1))) (w .top .is))
+                (λ j b. ⊎-elim (λ a. inr a) (λ a. inl a) (under j b))
+                (inl (v .0));
+            starts = w .starts;
+          }))
+          y
+        where
+          wins : s .count ≤ reached eqb x i q → (s .count < reached eqb x i q) ⊎ ((s .count ≡ reached eqb x i q) × (q ≤ s .len))
+          wins g = ⊎-elim
+              (λ (z : s .count ≡ reached eqb x i q). inr (
+                z,
+                ⊎-elim
+                    (λ y. absurd (omega (arith, y .1, repeats-reached eqb x i q (is-bare-now .2))))
+                    (λ a. omega (arith, a .0 .0))
+                    (w .top .is),
+              ))
+              (λ (l : s .count < reached eqb x i q). inl l)
+              (eq-or-lt-of-le g)
 
 pub walk-done : {x : List ℕ} {i q m : ℕ} {s : Seed} → Walk x i q m s → q ≡ 0 → Sown x i s
 walk-done {x} {i} w z = record { seed = seed-all x i (rw z at (w .top)); starts = w .starts }

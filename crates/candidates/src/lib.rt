@@ -8,7 +8,9 @@ ghost use Rattle.words.specs.Tables.{borderRow, coverRow, written};
 ghost use Rattle.words.specs.Refusals as Refusals;
 ghost use Rattle.words.proofs.Tables.{Room, Holds, Filled};
 ghost use Rattle.enhanced.specs.Tallies.{Tallies};
+ghost use Rattle.repeats.specs.Repeats.{reached};
 ghost use Rattle.repeats.proofs.Starts as Starts;
+ghost use Rattle.repeats.proofs.LeftSeeds.{Bare};
 ghost use Rattle.candidates.specs.Candidates.{bareRow, fallRow, Sown, Far, Ready, Taken};
 
 // The left seed of a prefix: its length, the positions that it reaches, and its longest start that ends the prefix.
@@ -32,42 +34,33 @@ fn bare_at(x: &[u8], cover: &[u16], bare: &[u16], r: usize) -> usize
     words::wide(bare[r - 1])
 }
 
-// Row r, from the rows before it: the longest border of the first r readings that is shorter than the longest length up to r without a proper cover.
-fn fall_at(x: &[u8], border: &[u16], bare: &[u16], fall: &[u16], r: usize) -> usize
-    requires { ⌜ Holds borderRow (now x) (now border) × Holds bareRow (now x) (now bare) × Filled fallRow (now x) (now fall) r ⌝ }
+// Row r, from the rows before it: the longest border of the first r readings that is shorter than q, the longest length up to r without a proper cover.
+fn fall_at(x: &[u8], border: &[u16], fall: &[u16], r: usize, q: usize) -> usize
+    requires { ⌜ Holds borderRow (now x) (now border) × Filled fallRow (now x) (now fall) r × (q ≡ bareRow (now x) r) ⌝ }
     ensures { λ m. ⌜ m ≡ fallRow (now (x .entry)) r ⌝ }
 {
     if r == 0 {
         return 0;
     }
     let b = words::wide(border[r - 1]);
-    if b < words::wide(bare[r]) {
+    if b < q {
         return b;
     }
     words::wide(fall[b])
 }
 
-// Writes the lengths without a proper cover into the first rows of `bare`.
-pub fn bare_rows(x: &[u8], cover: &[u16], bare: &mut [u16])
-    requires { ⌜ Room (now x) (now bare) × Holds coverRow (now x) (now cover) ⌝ }
-    ensures { λ _. ⌜ now (bare .exit) ≡ written (bareRow (now (x .entry))) (length (now (x .entry))) (now (bare .entry)) ⌝ }
+// Writes into the first rows of `bare` the lengths without a proper cover, and into those of `fall` where a start falls to when the pattern becomes one
+// that is no longer than it.
+pub fn rows(x: &[u8], border: &[u16], cover: &[u16], bare: &mut [u16], fall: &mut [u16])
+    requires { ⌜ Room (now x) (now bare) × Room (now x) (now fall) × Holds borderRow (now x) (now border) × Holds coverRow (now x) (now cover) ⌝ }
+    ensures bare { λ _. ⌜ now (bare .exit) ≡ written (bareRow (now (x .entry))) (length (now (x .entry))) (now (bare .entry)) ⌝ }
+    ensures fall { λ _. ⌜ now (fall .exit) ≡ written (fallRow (now (x .entry))) (length (now (x .entry))) (now (fall .entry)) ⌝ }
 {
     let mut r = 0;
     while r < x.len() {
         let q = bare_at(x, cover, bare, r);
+        let m = fall_at(x, border, fall, r, q);
         bare[r] = q as u16;
-        r += 1;
-    }
-}
-
-// Writes into the first rows of `fall` where a start falls to when the pattern becomes one that is no longer than it.
-pub fn fall_rows(x: &[u8], border: &[u16], bare: &[u16], fall: &mut [u16])
-    requires { ⌜ Room (now x) (now fall) × Holds borderRow (now x) (now border) × Holds bareRow (now x) (now bare) ⌝ }
-    ensures { λ _. ⌜ now (fall .exit) ≡ written (fallRow (now (x .entry))) (length (now (x .entry))) (now (fall .entry)) ⌝ }
-{
-    let mut r = 0;
-    while r < x.len() {
-        let m = fall_at(x, border, bare, fall, r);
         fall[r] = m as u16;
         r += 1;
     }
@@ -98,6 +91,19 @@ fn taken(s: Seed, q: usize, k: usize, m: usize) -> Seed
     s
 }
 
+// Weighs one pattern more, q, whose longest start is m. Where what it covers and all of the start are not enough, its last end is not asked.
+fn weighed(x: &[u8], last: &[u16], held: &[u16], i: usize, q: usize, m: usize, s: Seed) -> Seed
+    requires { ⌜ Tallies (now x) (now last) (now held) i × Bare (now x) i 0 q × (m ≡ Starts.start eqb (now x) i q) × (i ≤ length (now x)) × (length (now x) ≤ Refusals.longest) ⌝ }
+    ensures { λ r. ⌜ Taken s q (reached eqb (now (x .entry)) i q) m r ⌝ }
+{
+    let c = words::wide(held[q - 1]);
+    if c + m < s.count {
+        return s;
+    }
+    let k = enhanced::grown(m, i, words::wide(last[q - 1]), c);
+    taken(s, q, k, m)
+}
+
 // The left seed of the first i readings: every pattern without a proper cover that repeats, from the longest down. `far` is the longest prefix that
 // repeats, b the border.
 pub fn best(
@@ -122,8 +128,7 @@ pub fn best(
     let mut q = words::wide(bare[far]);
     while q != 0 {
         m = start_of(x, fall, i, m, q);
-        let k = enhanced::grown(m, i, words::wide(last[q - 1]), words::wide(held[q - 1]));
-        s = taken(s, q, k, m);
+        s = weighed(x, last, held, i, q, m, s);
         q = words::wide(bare[q - 1]);
     }
     s

@@ -1,22 +1,23 @@
 -- What each turn of the loop and the two calls come to, on plain lists and numbers. Assumes nothing.
+use mathlib.Core.Bool.{Bool, true, false}
 use mathlib.Core.Path.{_≡_, refl, sym, ap, _∙_}
 use mathlib.Core.List.{List, _++_}
 use mathlib.Core.Logic.{⊎-elim}
 use Prim.Native.Nat.{ℕ, _+_, _≤_, _<_}
 use native.Mathlib.Omega.{arith}
 use lib.Dec.{eqb}
-use lib.ListN.{length, getD}
-use mir.Syntax.{w16}
-use mir.Val.{Fits}
+use lib.ListN.{length, getD, set}
+use lib.Seq.{set-getD}
 use Rattle.words.specs.Tables.{Column, bestRow, countRow, written}
 use Rattle.words.specs.Refusals.{longest}
 use Rattle.words.proofs.Tops.{Top}
-use Rattle.words.proofs.Tables.{Room, Holds, Rows, length-written, written-stays, written-again}
+use Rattle.words.proofs.Tables.{Room, Holds, Rows, rows-more, length-written, written-stays, written-again}
 use Rattle.words.proofs.Occurrences.{eqb-refl}
 use Rattle.words.proofs.Counts.{covered-le}
 use Rattle.words.proofs.Bests.{best-best}
 use Rattle.repeats.specs.declared.Found.{Found}
-use Rattle.repeats.specs.Better.{Better}
+use Rattle.repeats.specs.Better.{Won, Better}
+use Rattle.repeats.proofs.Choices.{first-wins, second-wins}
 use Rattle.repeats.specs.Repeats.{leftCoverRow, leftCountRow}
 use Rattle.repeats.proofs.LeftCovers.{LeftCover, left-left, left-one, left-none, left-stays, left-moves}
 
@@ -32,32 +33,53 @@ pub row-of : (f g : Column) {x t₀ t : List ℕ} {r : ℕ} → Holds f x t₀ �
 row-of f g {x} {t₀} {t} {r} h w l = ap (λ (y : List ℕ). getD y r 0) (w .made) ∙ written-stays (g x) r t₀ r (omega arith) ∙ h .rows r l
 
 module _ {x b₀ b c₀ c : List ℕ} {r : ℕ} (hb : Holds bestRow x b₀) (hc : Holds countRow x c₀) (wb : Rows leftCoverRow x b₀ b r) (wc : Rows leftCountRow x c₀ c r) (l : r < length x) where
-  pub next-left : {a f g : Found} → Left x r a → f .len ≡ getD b r 0 → f .count ≡ getD c r 0 → Better a f g → Left x (r + 1) g
-  next-left {a} {f} {g} s d e o =
+  pub next-left : {a g : Found} → Left x r a → Better (record { len = getD b r 0; count = getD c r 0 }) a g → Left x (r + 1) g
+  next-left {a} {g} s o =
       let t = best-best eqb x (r + 1) in
-      let n : f .len ≡ bestRow x r = d ∙ row-of bestRow leftCoverRow hb wb l in
-      let k : f .count ≡ countRow x r = e ∙ row-of countRow leftCountRow hc wc l in
+      let n = row-of bestRow leftCoverRow hb wb l in
+      let k = row-of countRow leftCountRow hc wc l in
       ⊎-elim
-      (λ w. rw (w .0) (record { cover = left-stays eqb x eqb-refl (s .cover) t (rw (n, k) at (w .1)) }))
       (λ w. rw (w .0) (record { cover = rw (n, k) (left-moves eqb x eqb-refl (s .cover) t (rw (n, k) at (w .1))) }))
+      (λ w. rw (w .0) (record { cover = left-stays eqb x eqb-refl (s .cover) t (rw (n, k) at (w .1)) }))
       o
+
+-- ---- `settle`: a row that wins stands as it is
+
+pub row-stands : (t : List ℕ) (r : ℕ) {v : ℕ} → v ≡ getD t r 0 → t ≡ set t r v
+row-stands t r e = sym (ap (set t r) e ∙ set-getD t r 0)
+
+module _ (b c : List ℕ) (r : ℕ) {l k : ℕ} (e : l ≡ getD b r 0) (d : k ≡ getD c r 0) {a : Found} {t : Bool} (w : Won (record { len = l; count = k }) a t) where
+  pub row-wins : t ≡ true → Better (record { len = getD b r 0; count = getD c r 0 }) a (record { len = l; count = k })
+  row-wins z = rw (← e, ← d) (first-wins _ _ w z)
+
+  pub left-wins : t ≡ false → Better (record { len = getD b r 0; count = getD c r 0 }) a a
+  left-wins z = rw (← e, ← d) (second-wins _ _ w z)
+
+-- ---- `run`
+
+-- both fit a table's entry
+module _ {x : List ℕ} {r : ℕ} {f : Found} (s : Left x r f) (h : r < length x) (l : length x ≤ longest) where
+  pub len-small : f .len < 65536
+  len-small = ⊎-elim (λ z. omega (arith, z .0)) (λ v. omega (arith, v .0 .proper)) (s .cover .is)
+
+  pub count-small : f .count < 65536
+  count-small = ⊎-elim (λ z. omega (arith, z .1)) (λ v. omega (arith, v .1, covered-le eqb x r (f .len))) (s .cover .is)
 
 module _ (x : List ℕ) (r : ℕ) {g : Found} (s : Left x (r + 1) g) where
   is-row : (g .len ≡ leftCoverRow x r) × (g .count ≡ leftCountRow x r)
   is-row = left-one eqb x (r + 1) (s .cover) (left-left eqb x (r + 1))
 
-  pub cover-row : g .len ≡ leftCoverRow x r
+  cover-row : g .len ≡ leftCoverRow x r
   cover-row = is-row .0
 
-  pub count-row : g .count ≡ leftCountRow x r
+  count-row : g .count ≡ leftCountRow x r
   count-row = is-row .1
 
-  -- both fit a table's entry
-  pub len-fits : r < length x → length x ≤ longest → Fits w16 (g .len)
-  len-fits h l = ⊎-elim (λ z. omega (arith, z .0)) (λ v. omega (arith, v .0 .proper)) (s .cover .is)
+  pub cover-more : {b₀ b u : List ℕ} → Rows leftCoverRow x b₀ b r → r < length x → u ≡ set b r (g .len) → Rows leftCoverRow x b₀ u (r + 1)
+  cover-more w h e = rw e (rows-more w h cover-row)
 
-  pub count-fits : r < length x → length x ≤ longest → Fits w16 (g .count)
-  count-fits h l = ⊎-elim (λ z. omega (arith, z .1)) (λ v. omega (arith, v .1, covered-le eqb x (r + 1) (g .len))) (s .cover .is)
+  pub count-more : {c₀ c u : List ℕ} → Rows leftCountRow x c₀ c r → r < length x → u ≡ set c r (g .count) → Rows leftCountRow x c₀ u (r + 1)
+  count-more w h e = rw e (rows-more w h count-row)
 
 -- ---- `rows`: a table that is written as the one column, then as the other
 

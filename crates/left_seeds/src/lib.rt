@@ -68,8 +68,7 @@ fn columns(x: &[u8], border: &mut [u16], cover: &mut [u16], bare: &mut [u16], fa
 {
     border::rows(x, border);
     cover::rows(x, border, cover);
-    candidates::bare_rows(x, cover, bare);
-    candidates::fall_rows(x, border, bare, fall);
+    candidates::rows(x, border, cover, bare, fall);
 }
 
 // Writes the left seed of each prefix of x and the positions that it reaches into the first rows of the two tables.

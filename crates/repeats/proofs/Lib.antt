@@ -5,4 +5,4 @@ pub mod Starts
 pub mod LeftSeeds
 pub mod Meaning
 pub mod FlatLog
-mod Choices
+pub mod Choices

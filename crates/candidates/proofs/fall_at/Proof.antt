@@ -1,6 +1,6 @@
 -- `candidates::fall_at` meets its contract. Assumes nothing.
 use borrow.Author.Needs.{needs}
-use Rattle.candidates.proofs.Steps.{fall-first, in-border, in-row, in-fall, fall-yes, fall-no}
+use Rattle.candidates.proofs.Steps.{fall-first, in-border, in-fall, fall-yes, fall-no}
 use Rattle.candidates.proofs.fall_at.Statement.{statement}
 use Rattle.candidates.proofs.fall_at.Tie as tie
 
@@ -12,9 +12,6 @@ fall-at-spec =
     (λ c. search needs)
     (λ c. search (needs, in-border))
     (λ c. search in-border)
-    (λ c κs. search needs)
-    (λ c. search (needs, in-row))
-    (λ c. search in-row)
     (λ c κs. search needs)
     (λ c. search fall-yes)
     (λ c. search (needs, in-fall))

@@ -1,7 +1,6 @@
 -- `left_seeds::columns` meets its contract. Assumes nothing.
 use borrow.Author.Needs.{needs}
 use Rattle.words.specs.Tables.{borderRow, coverRow}
-use Rattle.candidates.specs.Candidates.{bareRow}
 use Rattle.left_seeds.proofs.Steps.{room-holds, columns-made}
 use Rattle.left_seeds.proofs.columns.Statement.{statement}
 use Rattle.left_seeds.proofs.columns.Tie as tie
@@ -12,8 +11,7 @@ columns-spec =
     (tie.spec
     (λ c κs. search needs)
     (λ c κs. (search needs, search (room-holds borderRow)))
-    (λ c κs. (search needs, search (room-holds coverRow)))
-    (λ c κs. (search needs, search (room-holds borderRow), search (room-holds bareRow)))
+    (λ c κs. (search needs, search needs, search (room-holds borderRow), search (room-holds coverRow)))
     (λ c. search needs)
     (λ c. search needs)
     (λ c. search needs)
