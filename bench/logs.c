@@ -1,7 +1,7 @@
 #include "logs.h"
 
-/* Symbols of the plant's file: outdoor air, and the ceiling. */
-enum { LOW = 4, HIGH = 20 };
+/* Symbols of the plant's file: outdoor air, a reading between, and the ceiling. */
+enum { LOW = 4, MIDDLE = 12, HIGH = 20 };
 
 /* Marsaglia's xorshift, with a fixed seed: every run measures the same logs. */
 static uint64_t chance(uint64_t *state)
@@ -65,10 +65,40 @@ static void two_letters(uint8_t *x, size_t n)
         x[p] = chance(&state) % 2 ? HIGH : LOW;
 }
 
-const char *const kind_names[KINDS] = {"flat", "Fibonacci", "cycle", "defects", "runs", "random"};
+/* The readings from the first `from` on are the log's first. */
+static void again(uint8_t *x, size_t n, size_t from)
+{
+    for (size_t p = from; p < n; p++)
+        x[p] = x[p - from];
+}
+
+/* A random half, and once more. */
+static void half(uint8_t *x, size_t n)
+{
+    two_letters(x, n);
+    again(x, n, (n + 1) / 2);
+}
+
+/*
+ * Readings of which three in five are at the ceiling, a run at the ceiling, and the same readings once more. For the left seeds: as the
+ * readings come again, one prefix without a cover after another has occurred twice, the run is covered by one reading best, and each
+ * search looks at them all.
+ */
+static void worst(uint8_t *x, size_t n)
+{
+    static const uint8_t readings[5] = {HIGH, HIGH, HIGH, MIDDLE, LOW};
+    uint64_t state = SEED;
+    size_t ends = 3 * n / 8;
+    flat(x, n);
+    for (size_t p = 1; p < ends; p++)
+        x[p] = readings[chance(&state) % 5];
+    again(x, n, n - ends);
+}
+
+const char *const kind_names[KINDS] = {"flat", "Fibonacci", "cycle", "defects", "runs", "random", "half", "worst"};
 
 void make_log(int kind, uint8_t *x, size_t n)
 {
-    static void (*const makers[KINDS])(uint8_t *, size_t) = {flat, fibonacci, cycle, defects, runs, two_letters};
+    static void (*const makers[KINDS])(uint8_t *, size_t) = {flat, fibonacci, cycle, defects, runs, two_letters, half, worst};
     makers[kind](x, n);
 }

@@ -1,5 +1,5 @@
 /*
- * Runs every call of every implementation that has it on every log:
+ * Runs every call of every implementation that has it, on every log that it is measured on:
  *   measure check   compares their tables; status 1 where two differ
  *   measure time    prints the median time of a call in nanoseconds
  *   measure count   under callgrind: one dump a call
@@ -15,9 +15,9 @@
 #include <time.h>
 #include <valgrind/callgrind.h>
 
-enum { COLUMNS = 5, CALLS = 7, IMPLEMENTATIONS = 3, REPEATS = 301 };
+enum { COLUMNS = 9, CALLS = 9, IMPLEMENTATIONS = 3, REPEATS = 301 };
 
-/* border, prefix, cover, best, count */
+/* border, prefix, cover, best, count; then best and count of the left covers, and of the left seeds */
 typedef struct {
     uint16_t column[COLUMNS][FINDER_LONGEST];
     uint32_t total, ceiling;
@@ -63,6 +63,16 @@ static void proved_ceiling(const uint8_t *x, size_t n, tables *t)
     t->ceiling = h.ceiling + (h.held ? HELD : 0);
 }
 
+static void proved_left_covers(const uint8_t *x, size_t n, tables *t)
+{
+    finder_left_covers(x, n, t->column[5], n, t->column[6], n);
+}
+
+static void proved_left_seeds(const uint8_t *x, size_t n, tables *t)
+{
+    finder_left_seeds(x, n, t->column[7], n, t->column[8], n);
+}
+
 #define CALLS_OF(language)                                                                                                         \
     static void plain_##language##_border(const uint8_t *x, size_t n, tables *t) { language##_border(x, n, t->column[0]); }        \
     static void plain_##language##_prefix(const uint8_t *x, size_t n, tables *t) { language##_prefix(x, n, t->column[1]); }        \
@@ -75,7 +85,15 @@ static void proved_ceiling(const uint8_t *x, size_t n, tables *t)
     {                                                                                                                              \
         t->total = language##_all(x, n, t->column[0], t->column[1], t->column[2], t->column[3], t->column[4]);                     \
     }                                                                                                                              \
-    static void plain_##language##_ceiling(const uint8_t *x, size_t n, tables *t) { t->ceiling = language##_ceiling(x, n); }
+    static void plain_##language##_ceiling(const uint8_t *x, size_t n, tables *t) { t->ceiling = language##_ceiling(x, n); }       \
+    static void plain_##language##_left_covers(const uint8_t *x, size_t n, tables *t)                                              \
+    {                                                                                                                              \
+        language##_left_covers(x, n, t->column[5], t->column[6]);                                                                  \
+    }                                                                                                                              \
+    static void plain_##language##_left_seeds(const uint8_t *x, size_t n, tables *t)                                               \
+    {                                                                                                                              \
+        language##_left_seeds(x, n, t->column[7], t->column[8]);                                                                   \
+    }
 
 CALLS_OF(c)
 CALLS_OF(rust)
@@ -84,26 +102,44 @@ static const struct {
     const char *name;
     call *calls[CALLS];
 } implementations[IMPLEMENTATIONS] = {
-    {"proved", {proved_border, proved_prefix, proved_cover, proved_enhanced, proved_window, proved_pattern, proved_ceiling}},
-    {"c", {plain_c_border, plain_c_prefix, plain_c_cover, plain_c_enhanced, plain_c_window, NULL, plain_c_ceiling}},
-    {"rust", {plain_rust_border, plain_rust_prefix, plain_rust_cover, plain_rust_enhanced, plain_rust_window, NULL, plain_rust_ceiling}},
+    {"proved",
+     {proved_border, proved_prefix, proved_cover, proved_enhanced, proved_window, proved_pattern, proved_ceiling, proved_left_covers,
+      proved_left_seeds}},
+    {"c",
+     {plain_c_border, plain_c_prefix, plain_c_cover, plain_c_enhanced, plain_c_window, NULL, plain_c_ceiling, plain_c_left_covers,
+      plain_c_left_seeds}},
+    {"rust",
+     {plain_rust_border, plain_rust_prefix, plain_rust_cover, plain_rust_enhanced, plain_rust_window, NULL, plain_rust_ceiling,
+      plain_rust_left_covers, plain_rust_left_seeds}},
 };
 
+/* The columns that a call writes, and whether only their last row; its totals apart; the kinds of log that it is measured on. */
 static const struct {
     const char *name;
-    int first, last, has_total, last_row, has_ceiling; /* the columns that it writes, and whether only their last row; totals apart */
-} calls[CALLS] = {{"border", 0, 0, 0, 0, 0}, {"prefix", 1, 1, 0, 0, 0},  {"cover", 2, 2, 0, 0, 0},   {"enhanced", 3, 4, 1, 0, 0},
-                  {"window", 0, 4, 1, 0, 0}, {"pattern", 3, 3, 0, 1, 0}, {"ceiling", 0, -1, 0, 0, 1}};
+    int first, last, has_total, last_row, has_ceiling, kinds;
+} calls[CALLS] = {
+    {"border", 0, 0, 0, 0, 0, COMMON},
+    {"prefix", 1, 1, 0, 0, 0, COMMON},
+    {"cover", 2, 2, 0, 0, 0, COMMON},
+    {"enhanced", 3, 4, 1, 0, 0, KINDS}, /* the left covers are told in it */
+    {"window", 0, 4, 1, 0, 0, COMMON},
+    {"pattern", 3, 3, 0, 1, 0, COMMON},
+    {"ceiling", 0, -1, 0, 0, 1, COMMON},
+    {"left_covers", 5, 6, 0, 0, 0, KINDS},
+    {"left_seeds", 7, 8, 0, 0, 0, KINDS},
+};
 
 /* What is done with each call on each log. */
 typedef void visit(const char *name, int implementation, int which, const uint8_t *x, size_t n);
 
-/* The plain C's window and ceiling set the standard for all that the call writes. */
+/* The plain C sets the standard for all that the call writes. */
 static void check(const char *name, int implementation, int which, const uint8_t *x, size_t n)
 {
     static tables wanted, made;
     plain_c_window(x, n, &wanted);
     plain_c_ceiling(x, n, &wanted);
+    plain_c_left_covers(x, n, &wanted);
+    plain_c_left_seeds(x, n, &wanted);
     memset(&made, 0xff, sizeof made);
     implementations[implementation].calls[which](x, n, &made);
     int same = (!calls[which].has_total || made.total == wanted.total) && (!calls[which].has_ceiling || made.ceiling == wanted.ceiling);
@@ -153,7 +189,7 @@ static void each(visit *v)
             make_log(kind, x, n);
             for (int which = 0; which < CALLS; which++)
                 for (int k = 0; k < IMPLEMENTATIONS; k++) {
-                    if (!implementations[k].calls[which])
+                    if (!implementations[k].calls[which] || kind >= calls[which].kinds)
                         continue;
                     char name[64];
                     snprintf(name, sizeof name, "%s %s %s %zu", implementations[k].name, calls[which].name, kind_names[kind], n);

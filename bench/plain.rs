@@ -86,6 +86,136 @@ fn enhanced_of(border: &[u16], cover: &[u16], best: &mut [u16], count: &mut [u16
     total
 }
 
+#[derive(Clone, Copy, Default)]
+struct Row {
+    pattern: u16,
+    most: u16,
+}
+
+impl Row {
+    fn better(self, than: Row) -> bool {
+        self.most > than.most || (self.most == than.most && self.pattern < than.pattern)
+    }
+}
+
+fn left_of(best: &mut [u16], count: &mut [u16]) {
+    let mut left = Row::default();
+    for (pattern, most) in best.iter_mut().zip(count) {
+        let row = Row { pattern: *pattern, most: *most };
+        if row.better(left) {
+            left = row;
+        }
+        (*pattern, *most) = (left.pattern, left.most);
+    }
+}
+
+#[derive(Clone, Copy, Default)]
+struct Seed {
+    row: Row,
+    start: u16,
+}
+
+impl Seed {
+    fn ended(row: Row, border: &[u16]) -> Self {
+        Seed { row, start: border[row.pattern as usize - 1] }
+    }
+
+    fn grown(self, border: &[u16]) -> Self {
+        let row = Row { pattern: self.row.pattern, most: self.row.most + 1 };
+        if self.start + 1 == row.pattern {
+            Seed::ended(row, border)
+        } else {
+            Seed { row, start: self.start + 1 }
+        }
+    }
+}
+
+struct Bed {
+    bare: [u16; LONGEST + 1],
+    last: [u16; LONGEST + 1],
+    covered: [u16; LONGEST + 1],
+    under: [u16; LONGEST + 1],
+    fall: [u16; LONGEST + 1],
+    twice: u16,
+    left: Row,
+}
+
+impl Bed {
+    fn new() -> Self {
+        let none = [0; LONGEST + 1];
+        Bed { bare: none, last: none, covered: none, under: none, fall: none, twice: 0, left: Row::default() }
+    }
+
+    fn weigh(&mut self, border: &[u16], cover: &[u16], i: usize) -> Row {
+        let longest = self.bare[border[i - 1] as usize];
+        let (mut q, mut best) = (longest, Row::default());
+        while q > 0 {
+            let at = q as usize;
+            self.covered[at] += q.min(i as u16 - self.last[at]);
+            self.last[at] = i as u16;
+            if self.covered[at] >= best.most {
+                best = Row { pattern: q, most: self.covered[at] };
+            }
+            q = self.bare[border[at - 1] as usize];
+        }
+        self.bare[i] = if cover[i - 1] == 0 { i as u16 } else { longest };
+        self.last[i] = i as u16;
+        self.covered[i] = i as u16;
+        best
+    }
+
+    fn keep(&mut self, cover: &[u16], i: usize, b: u16, best: Row) {
+        self.under[i] = if cover[i - 1] == 0 { i as u16 } else { self.under[i - 1] };
+        self.fall[i] = if b < self.under[i] { b } else { self.fall[b as usize] };
+        self.twice = self.twice.max(b);
+        if best.better(self.left) {
+            self.left = best;
+        }
+    }
+
+    fn search(&self, i: usize, b: u16) -> Seed {
+        let (mut q, mut start, mut best) = (self.under[self.twice as usize], b, Seed::default());
+        while q > 0 {
+            let at = q as usize;
+            if q <= start {
+                start = self.fall[start as usize];
+            }
+            let now = self.covered[at] + start.min(i as u16 - self.last[at]);
+            if now >= best.row.most {
+                best = Seed { row: Row { pattern: q, most: now }, start };
+            }
+            q = self.under[at - 1];
+        }
+        best
+    }
+
+    fn seed(&self, x: &[u8], border: &[u16], i: usize, best: Row, was: Seed) -> Seed {
+        let (b, left) = (border[i - 1], self.left);
+        if was.row.pattern > 0 && x[was.start as usize] == x[i - 1] {
+            let on = was.grown(border);
+            return if best.better(on.row) { Seed::ended(best, border) } else { on };
+        }
+        if best.most > was.row.most + 1 {
+            return Seed::ended(best, border);
+        }
+        if left.pattern > b && self.last[left.pattern as usize] + b <= i as u16 {
+            return Seed { row: Row { pattern: left.pattern, most: left.most + b }, start: b };
+        }
+        self.search(i, b)
+    }
+}
+
+fn seeds_of(x: &[u8], border: &[u16], cover: &[u16], best: &mut [u16], count: &mut [u16]) {
+    let (mut bed, mut seed) = (Bed::new(), Seed::default());
+    for i in 1..=x.len() {
+        let row = bed.weigh(border, cover, i);
+        bed.keep(cover, i, border[i - 1], row);
+        seed = bed.seed(x, border, i, row, seed);
+        best[i - 1] = seed.row.pattern;
+        count[i - 1] = seed.row.most;
+    }
+}
+
 use std::slice::{from_raw_parts as lent, from_raw_parts_mut as lent_mut};
 
 /// # Safety
@@ -113,6 +243,23 @@ pub unsafe extern "C" fn rust_enhanced(x: *const u8, n: usize, best: *mut u16, c
     border_of(lent(x, n), border);
     cover_of(border, cover);
     enhanced_of(border, cover, lent_mut(best, n), lent_mut(count, n))
+}
+
+#[no_mangle]
+pub unsafe extern "C" fn rust_left_covers(x: *const u8, n: usize, best: *mut u16, count: *mut u16) {
+    let (border, cover, best, count) = (&mut [0; LONGEST][..n], &mut [0; LONGEST][..n], lent_mut(best, n), lent_mut(count, n));
+    border_of(lent(x, n), border);
+    cover_of(border, cover);
+    enhanced_of(border, cover, best, count);
+    left_of(best, count);
+}
+
+#[no_mangle]
+pub unsafe extern "C" fn rust_left_seeds(x: *const u8, n: usize, best: *mut u16, count: *mut u16) {
+    let (x, border, cover) = (lent(x, n), &mut [0; LONGEST][..n], &mut [0; LONGEST][..n]);
+    border_of(x, border);
+    cover_of(border, cover);
+    seeds_of(x, border, cover, lent_mut(best, n), lent_mut(count, n));
 }
 
 #[no_mangle]

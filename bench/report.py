@@ -16,11 +16,15 @@ class Measured:
         self.costs = {}
         for implementation, call, kind, n, cost in lines:
             self.costs[implementation, call, kind, int(n)] = int(cost) / int(n)
-        self.kinds = list(dict.fromkeys(key[2] for key in self.costs))
         self.sizes = sorted({key[3] for key in self.costs})
 
     def __call__(self, implementation, call, kind, n):
         return self.costs[implementation, call, kind, n]
+
+    def kinds(self, *calls):
+        """The kinds of log that all of these calls are measured on."""
+        kinds = dict.fromkeys(key[2] for key in self.costs)
+        return [kind for kind in kinds if all(("proved", call, kind, self.sizes[0]) in self.costs for call in calls)]
 
 
 def read_counts(path):
@@ -33,20 +37,20 @@ def read_times(path):
     return Measured(line.split() for line in path.read_text().splitlines())
 
 
-def table(kinds, sizes, cell):
+def table(measured, sizes, cell):
     lines = ["| log | n | " + " | ".join(CALLS) + " |", "|---|---:|" + "---:|" * len(CALLS)]
-    for kind in kinds:
+    for kind in measured.kinds(*CALLS):
         for n in sizes:
             cells = " | ".join(cell(call, kind, n) for call in CALLS)
             lines.append(f"| {kind} | {n:,} | {cells} |")
     return "\n".join(lines)
 
 
-def table_of_one(counts, cell):
+def table_of_one(counts, call, cell):
     """One call: a row for each kind of log, a column for each n."""
     lines = ["| log | " + " | ".join(f"{n:,}" for n in counts.sizes) + " |", "|---|" + "---:|" * len(counts.sizes)]
-    for kind in counts.kinds:
-        lines.append(f"| {kind} | " + " | ".join(cell(kind, n) for n in counts.sizes) + " |")
+    for kind in counts.kinds(call):
+        lines.append(f"| {kind} | " + " | ".join(cell(call, kind, n) for n in counts.sizes) + " |")
     return "\n".join(lines)
 
 
@@ -64,11 +68,11 @@ def markdown(counts, times, stack, built, plot):
     def plain(call, kind, n):
         return f"{counts('c', call, kind, n):.1f} / {counts('rust', call, kind, n):.1f}"
 
-    def pattern(kind, n):
-        return f"{counts('proved', 'pattern', kind, n) / counts('proved', 'enhanced', kind, n):.2f}"
+    def in_enhanced_tables(call, kind, n):
+        return f"{counts('proved', call, kind, n) / counts('proved', 'enhanced', kind, n):.2f}"
 
-    def ceiling(kind, n):
-        return f"{proved('ceiling', kind, n)} {counts('rust', 'ceiling', kind, n):.1f}"
+    def all_three(call, kind, n):
+        return f"{proved(call, kind, n)} {counts('rust', call, kind, n):.1f}"
 
     def time(call, kind, n):
         return " / ".join(f"{times(who, call, kind, n):.1f}" for who in ("proved", "c", "rust"))
@@ -78,23 +82,31 @@ Built with {built}.
 
 Instructions a reading of the proved library; in brackets, how many times those of plain C:
 
-{table(counts.kinds, counts.sizes, proved)}
+{table(counts, counts.sizes, proved)}
 
 Instructions a reading of plain C / plain Rust:
 
-{table(counts.kinds, counts.sizes, plain)}
+{table(counts, counts.sizes, plain)}
 
 Instructions of `best_pattern`, in those of `enhanced_table` on the same log, by its length:
 
-{table_of_one(counts, pattern)}
+{table_of_one(counts, "pattern", in_enhanced_tables)}
+
+Instructions of `left_covers`, in those of `enhanced_table` on the same log, by its length:
+
+{table_of_one(counts, "left_covers", in_enhanced_tables)}
+
+Instructions a reading of `left_seeds`, by the log's length; in brackets, how many times those of plain C; then those of plain Rust:
+
+{table_of_one(counts, "left_seeds", all_three)}
 
 Instructions a reading of `ceiling`, by the log's length; in brackets, how many times those of plain C; then those of plain Rust:
 
-{table_of_one(counts, ceiling)}
+{table_of_one(counts, "ceiling", all_three)}
 
 Nanoseconds a reading, the median of many calls: proved / plain C / plain Rust:
 
-{table(times.kinds, times.sizes[-1:], time)}
+{table(times, times.sizes[-1:], time)}
 
 Bytes of stack that a call takes beyond an empty one:
 
@@ -130,7 +142,8 @@ STYLES = {"proved": "none", "c": "5 4"}
 
 def panel(counts, call, left, top):
     """One call: a line for each kind of log, whole for the proved library and broken for plain C."""
-    highest = max(cost for key, cost in counts.costs.items() if key[1] == call and key[0] in STYLES)
+    kinds = counts.kinds(*CALLS)
+    highest = max(counts(who, call, kind, n) for who in STYLES for kind in kinds for n in counts.sizes)
     step = 10 ** math.floor(math.log10(highest))
     step = next(s for s in (step / 5, step / 2, step, step * 2) if highest / s <= 6)
     ceiling = math.ceil(highest / step) * step
@@ -149,12 +162,12 @@ def panel(counts, call, left, top):
     for n in counts.sizes:
         yield text(x(n), top + HEIGHT + 18, f"{n:,}")
     for who, dashes in STYLES.items():
-        for kind, colour in zip(counts.kinds, COLOURS):
+        for kind, colour in zip(kinds, COLOURS):
             yield line([(x(n), y(counts(who, call, kind, n))) for n in counts.sizes], colour, dashes)
 
 
 def legend(counts, left, top):
-    rows = [(kind, colour, "none") for kind, colour in zip(counts.kinds, COLOURS)]
+    rows = [(kind, colour, "none") for kind, colour in zip(counts.kinds(*CALLS), COLOURS)]
     rows += [("proved", "black", STYLES["proved"]), ("plain C", "black", STYLES["c"])]
     for k, (words, colour, dashes) in enumerate(rows):
         yield line([(left, top + 22 * k), (left + 40, top + 22 * k)], colour, dashes)

@@ -20,6 +20,8 @@ static void border_table(void) { finder_border_table(x, FINDER_LONGEST, t[0], FI
 static void prefix_table(void) { finder_prefix_table(x, FINDER_LONGEST, t[0], FINDER_LONGEST); }
 static void cover_table(void) { finder_cover_table(x, FINDER_LONGEST, t[0], FINDER_LONGEST); }
 static void enhanced_table(void) { finder_enhanced_table(x, FINDER_LONGEST, t[0], FINDER_LONGEST, t[1], FINDER_LONGEST); }
+static void left_covers(void) { finder_left_covers(x, FINDER_LONGEST, t[0], FINDER_LONGEST, t[1], FINDER_LONGEST); }
+static void left_seeds(void) { finder_left_seeds(x, FINDER_LONGEST, t[0], FINDER_LONGEST, t[1], FINDER_LONGEST); }
 static void normal_form(void) { finder_normal_form(x, FINDER_LONGEST, FINDER_LONGEST); }
 static void breakdown(void) { finder_breakdown(x, FINDER_LONGEST); }
 static void cover_list(void) { finder_cover_list(x, FINDER_LONGEST, t[0], FINDER_LONGEST); }
@@ -59,11 +61,11 @@ int main(void)
 {
     static const struct { const char *name; void (*call)(void); } calls[] = {
         {"border_table", border_table}, {"prefix_table", prefix_table}, {"cover_table", cover_table},
-        {"enhanced_table", enhanced_table}, {"window", window}, {"normal_form", normal_form}, {"breakdown", breakdown},
-        {"cover_list", cover_list}, {"cover_test", cover_test}, {"weighed_list", weighed_list}, {"best_pattern", best_pattern},
-        {"ceiling", ceiling}};
+        {"enhanced_table", enhanced_table}, {"left_covers", left_covers}, {"left_seeds", left_seeds}, {"window", window},
+        {"normal_form", normal_form}, {"breakdown", breakdown}, {"cover_list", cover_list}, {"cover_test", cover_test},
+        {"weighed_list", weighed_list}, {"best_pattern", best_pattern}, {"ceiling", ceiling}};
     size_t idle = worn_by(nothing);
-    make_log(KINDS - 1, x, FINDER_LONGEST);
+    make_log(RANDOM, x, FINDER_LONGEST);
     for (size_t k = 0; k < sizeof calls / sizeof *calls; k++)
         printf("%s %zu\n", calls[k].name, worn_by(calls[k].call) - idle);
     return 0;

@@ -136,6 +136,22 @@ finder_written finder_cover_table(const uint8_t *x, size_t n, uint16_t *t, size_
 finder_weighing finder_enhanced_table(const uint8_t *x, size_t n, uint16_t *best, size_t bn, uint16_t *count, size_t cn);
 
 /*
+ * The left covers. Row i: of the patterns that occur at least twice in the prefix of length i, `best` has the shortest of those that
+ * cover the most of its positions, and `count` has how many these are; both 0 if there is none.
+ * Refuses: EMPTY; LONG; SHORT where bn < n or cn < n.
+ * Writes best[0] to best[n - 1] and count[0] to count[n - 1]; later entries stay.
+ */
+finder_written finder_left_covers(const uint8_t *x, size_t n, uint16_t *best, size_t bn, uint16_t *count, size_t cn);
+
+/*
+ * The left seeds. As the left covers, of the same patterns, but a pattern that is not yet read to its end covers too: of one of
+ * length q, every m < q such that the last m readings of the prefix equal the first m covers these last m positions.
+ * Refuses: EMPTY; LONG; SHORT where bn < n or cn < n.
+ * Writes best[0] to best[n - 1] and count[0] to count[n - 1]; later entries stay.
+ */
+finder_written finder_left_seeds(const uint8_t *x, size_t n, uint16_t *best, size_t bn, uint16_t *count, size_t cn);
+
+/*
  * A window: the m readings after the first a, judged as a log of their own. Its five columns go to rows a + 1 to a + m.
  * Answers the weighed total of the window.
  * Refuses: EMPTY; LONG; PLACE where m is 0 or a + m > n; SHORT where one of bn, pn, cn, en, kn is below a + m.
