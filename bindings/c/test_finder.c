@@ -40,16 +40,31 @@ static int ends(const uint8_t *x, size_t q, size_t e)
     return q <= e && memcmp(x, x + e - q, q) == 0;
 }
 
-static size_t covered(const uint8_t *x, size_t i, size_t q)
+/* Marks what the occurrences of the pattern of length q lie on, and answers how many there are. */
+static size_t mark(const uint8_t *x, size_t i, size_t q, uint8_t *inside)
 {
-    uint8_t inside[FINDER_LONGEST] = {0};
-    size_t count = 0;
+    size_t occurrences = 0;
     for (size_t e = q; e <= i; e++)
-        if (ends(x, q, e))
+        if (ends(x, q, e)) {
             memset(inside + e - q, 1, q);
+            occurrences++;
+        }
+    return occurrences;
+}
+
+static size_t marked(const uint8_t *inside, size_t i)
+{
+    size_t count = 0;
     for (size_t p = 0; p < i; p++)
         count += inside[p];
     return count;
+}
+
+static size_t covered(const uint8_t *x, size_t i, size_t q)
+{
+    uint8_t inside[FINDER_LONGEST] = {0};
+    mark(x, i, q, inside);
+    return marked(inside, i);
 }
 
 static size_t border(const uint8_t *x, size_t i)
@@ -81,15 +96,47 @@ typedef struct {
     size_t best, count;
 } enhanced;
 
+/* Patterns are tried from the shortest on: a longer one has to cover more to be taken. */
+static void try_pattern(enhanced *r, size_t q, size_t count)
+{
+    if (count > r->count) {
+        r->best = q;
+        r->count = count;
+    }
+}
+
 static enhanced weigh(const uint8_t *x, size_t i)
 {
     enhanced r = {0, 0};
+    for (size_t q = 1; q < i; q++)
+        if (ends(x, q, i))
+            try_pattern(&r, q, covered(x, i, q));
+    return r;
+}
+
+/* Marks what the starts of the pattern of length q that end at i lie on. */
+static void mark_starts(const uint8_t *x, size_t i, size_t q, uint8_t *inside)
+{
+    for (size_t m = 1; m < q; m++)
+        if (ends(x, m, i))
+            memset(inside + i - m, 1, m);
+}
+
+typedef struct {
+    enhanced cover, seed;
+} lefts;
+
+/* Where a pattern does not occur twice, no longer one does. */
+static lefts weigh_left(const uint8_t *x, size_t i)
+{
+    lefts r = {{0, 0}, {0, 0}};
     for (size_t q = 1; q < i; q++) {
-        size_t count = ends(x, q, i) ? covered(x, i, q) : 0;
-        if (count > r.count) {
-            r.best = q;
-            r.count = count;
-        }
+        uint8_t inside[FINDER_LONGEST] = {0};
+        if (mark(x, i, q, inside) < 2)
+            break;
+        try_pattern(&r.cover, q, marked(inside, i));
+        mark_starts(x, i, q, inside);
+        try_pattern(&r.seed, q, marked(inside, i));
     }
     return r;
 }
@@ -183,12 +230,12 @@ static int holds(lent *t, size_t skipped, const uint16_t *column, size_t rows)
     return memcmp(t->before, t->now, t->size * sizeof *t->now) == 0;
 }
 
-/* The five columns of a log and its weighed total. */
+/* The five columns of a log and its weighed total, and beside them those of the left covers and the left seeds. */
 
-enum { BORDER, PREFIX, COVER, BEST, COUNT, COLUMNS };
+enum { BORDER, PREFIX, COVER, BEST, COUNT, COLUMNS, LEFT_COVER = COLUMNS, LEFT_COVER_COUNT, LEFT_SEED, LEFT_SEED_COUNT, WITH_LEFT };
 
 typedef struct {
-    uint16_t column[COLUMNS][FINDER_LONGEST];
+    uint16_t column[WITH_LEFT][FINDER_LONGEST];
     uint32_t total;
 } rows;
 
@@ -197,14 +244,29 @@ static void make_rows(rows *r, const uint8_t *x, size_t n)
     r->total = 0;
     for (size_t i = 1; i <= n; i++) {
         enhanced e = weigh(x, i);
-        size_t row[COLUMNS] = {border(x, i), prefix(x, n, i), cover(x, i), e.best, e.count};
-        for (int c = 0; c < COLUMNS; c++)
+        lefts l = weigh_left(x, i);
+        size_t row[WITH_LEFT] = {border(x, i), prefix(x, n, i), cover(x, i), e.best, e.count,
+                                 l.cover.best, l.cover.count, l.seed.best, l.seed.count};
+        for (int c = 0; c < WITH_LEFT; c++)
             r->column[c][i - 1] = (uint16_t)row[c];
         r->total += weighed(x, i).used;
     }
 }
 
 /* The checks. Each takes the rows that the call has to make; a refused call makes none. */
+
+static void check_left(const uint8_t *x, size_t n, size_t bn, size_t cn, const rows *r)
+{
+    static lent best, count;
+    unsigned no = table_no(n, bn < cn ? bn : cn);
+    size_t written = no ? 0 : n;
+    for (int c = LEFT_COVER; c < WITH_LEFT; c += 2) {
+        uint16_t *b = lend(&best, bn), *k = lend(&count, cn);
+        finder_written w = c == LEFT_COVER ? finder_left_covers(x, n, b, bn, k, cn) : finder_left_seeds(x, n, b, bn, k, cn);
+        CHECK(w.number == no);
+        CHECK(holds(&best, 0, r->column[c], written) && holds(&count, 0, r->column[c + 1], written));
+    }
+}
 
 static void check_tables(const uint8_t *x, size_t n, size_t room, const rows *r)
 {
@@ -222,6 +284,7 @@ static void check_tables(const uint8_t *x, size_t n, size_t room, const rows *r)
         finder_weighing w = finder_enhanced_table(x, n, lend(&t, bn), bn, lend(&other, cn), cn);
         CHECK(w.number == no && w.total == (no ? 0 : r->total));
         CHECK(holds(&t, 0, r->column[BEST], written) && holds(&other, 0, r->column[COUNT], written));
+        check_left(x, n, bn, cn, r);
     }
 }
 
@@ -385,7 +448,7 @@ static void lengths(void)
     static const size_t tried[] = {0, 1, FINDER_LONGEST, FINDER_LONGEST + 1};
     static uint8_t x[FINDER_LONGEST + 1];
     static rows r;
-    make_log(KINDS - 1, x, sizeof x);
+    make_log(RANDOM, x, sizeof x);
     judged = x;
     for (size_t k = 0; k < sizeof tried / sizeof *tried; k++) {
         size_t n = judged_len = tried[k];

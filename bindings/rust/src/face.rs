@@ -63,11 +63,16 @@ fn accepted(number: u8) -> Result<(), Refusal> {
 /// A call that writes one table: log and table, each with its length.
 pub type Table = unsafe extern "C" fn(*const u8, usize, *mut u16, usize) -> Written;
 
+/// A call that writes two.
+pub type TwoTables = unsafe extern "C" fn(*const u8, usize, *mut u16, usize, *mut u16, usize) -> Written;
+
 extern "C" {
     pub fn finder_border_table(x: *const u8, n: usize, t: *mut u16, tn: usize) -> Written;
     pub fn finder_prefix_table(x: *const u8, n: usize, t: *mut u16, tn: usize) -> Written;
     pub fn finder_cover_table(x: *const u8, n: usize, t: *mut u16, tn: usize) -> Written;
     pub fn finder_enhanced_table(x: *const u8, n: usize, best: *mut u16, bn: usize, count: *mut u16, cn: usize) -> Answer<u32>;
+    pub fn finder_left_covers(x: *const u8, n: usize, best: *mut u16, bn: usize, count: *mut u16, cn: usize) -> Written;
+    pub fn finder_left_seeds(x: *const u8, n: usize, best: *mut u16, bn: usize, count: *mut u16, cn: usize) -> Written;
     pub fn finder_window(
         x: *const u8,
         n: usize,

@@ -149,6 +149,11 @@ fn write_table(call: face::Table, log: &[u8], table: &mut [u16]) -> Result<(), R
     unsafe { call(log.as_ptr(), log.len(), table.as_mut_ptr(), table.len()) }.accepted()
 }
 
+fn write_two_tables(call: face::TwoTables, log: &[u8], best: &mut [u16], count: &mut [u16]) -> Result<(), Refusal> {
+    // SAFETY: each pair is a live slice's, and the tables are lent to this call alone.
+    unsafe { call(log.as_ptr(), log.len(), best.as_mut_ptr(), best.len(), count.as_mut_ptr(), count.len()) }.accepted()
+}
+
 /// The border table. Row `i`: the longest border of the prefix of length `i`; 0 if it has no nonempty one.
 ///
 /// Writes the first `log.len()` entries; later ones stay. Refuses: `Empty`, `Long`, `Short`.
@@ -209,6 +214,38 @@ pub fn enhanced_table(log: &[u8], best: &mut [u16], count: &mut [u16]) -> Result
     // SAFETY: each pair is a live slice's, and the tables are lent to this call alone.
     unsafe { face::finder_enhanced_table(log.as_ptr(), log.len(), best.as_mut_ptr(), best.len(), count.as_mut_ptr(), count.len()) }
         .accepted()
+}
+
+/// The left covers. Row `i`: of the patterns that occur at least twice in the prefix of length `i`, `best` has the shortest of those
+/// that cover the most of its positions, and `count` has how many these are; both 0 if there is none.
+///
+/// Writes the first `log.len()` entries of both; later ones stay. Refuses: `Empty`, `Long`, `Short`.
+///
+/// ```
+/// let (mut best, mut count) = ([0; 7], [0; 7]);
+/// finder::left_covers(b"abaabab", &mut best, &mut count)?;
+/// assert_eq!(best, [0, 0, 1, 1, 2, 3, 2]);
+/// assert_eq!(count, [0, 0, 2, 3, 4, 6, 6]);
+/// # Ok::<(), finder::Refusal>(())
+/// ```
+pub fn left_covers(log: &[u8], best: &mut [u16], count: &mut [u16]) -> Result<(), Refusal> {
+    write_two_tables(face::finder_left_covers, log, best, count)
+}
+
+/// The left seeds. As [`left_covers`], of the same patterns, but a pattern that is not yet read to its end covers too: of one of
+/// length `q`, every `m < q` such that the last `m` readings of the prefix equal the first `m` covers these last `m` positions.
+///
+/// Writes the first `log.len()` entries of both; later ones stay. Refuses: `Empty`, `Long`, `Short`.
+///
+/// ```
+/// let (mut best, mut count) = ([0; 7], [0; 7]);
+/// finder::left_seeds(b"abaabab", &mut best, &mut count)?;
+/// assert_eq!(best, [0, 0, 1, 1, 2, 3, 3]);
+/// assert_eq!(count, [0, 0, 2, 3, 4, 6, 7]);
+/// # Ok::<(), finder::Refusal>(())
+/// ```
+pub fn left_seeds(log: &[u8], best: &mut [u16], count: &mut [u16]) -> Result<(), Refusal> {
+    write_two_tables(face::finder_left_seeds, log, best, count)
 }
 
 /// The `len` readings after the first `skipped`, judged as a log of their own. Answers their weighed total.

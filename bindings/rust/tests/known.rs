@@ -44,6 +44,26 @@ fn tables() {
     }
 }
 
+/// The last row of the left covers, and that of the left seeds.
+#[test]
+fn left_rows() {
+    let known: [(&[u8], _, _); 6] = [
+        (b"a", (0, 0), (0, 0)),
+        (b"ab", (0, 0), (0, 0)),
+        (b"aaaa", (1, 4), (1, 4)),
+        (b"abaabab", (2, 6), (3, 7)),
+        (b"abaabaab", (5, 8), (3, 8)),
+        (b"ababaa", (3, 5), (3, 6)),
+    ];
+    for (log, cover, seed) in known {
+        let (n, mut best, mut count) = (log.len(), [0; 8], [0; 8]);
+        finder::left_covers(log, &mut best, &mut count).unwrap();
+        assert_eq!((best[n - 1], count[n - 1]), cover);
+        finder::left_seeds(log, &mut best, &mut count).unwrap();
+        assert_eq!((best[n - 1], count[n - 1]), seed);
+    }
+}
+
 const P7: &[u8] = b"abaababaababa";
 const P8: &[u8] = b"ababaabaabababaababaabaababa";
 

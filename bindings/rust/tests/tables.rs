@@ -3,7 +3,7 @@ mod common;
 
 use common::lent::Lent;
 use common::logs::{self, Chance};
-use common::reference::{self, Rows};
+use common::reference::{self, Pair, Rows};
 use finder::{Refusal, Tables, LONGEST};
 
 type Table = fn(&[u8], &mut [u16]) -> Result<(), Refusal>;
@@ -23,6 +23,16 @@ fn check_enhanced(log: &[u8], rows: &Rows, rooms: [usize; 2], chance: &mut Chanc
     count.holds(0, if answer.is_ok() { &rows.count } else { &[] });
 }
 
+type TwoTables = fn(&[u8], &mut [u16], &mut [u16]) -> Result<(), Refusal>;
+
+fn check_left(call: TwoTables, log: &[u8], columns: &Pair, rooms: [usize; 2], chance: &mut Chance) {
+    let [mut best, mut count] = rooms.map(|room| Lent::new(room, chance));
+    let answer = call(log, best.table(), count.table());
+    assert_eq!(answer, reference::judge_tables(log.len(), &rooms));
+    best.holds(0, if answer.is_ok() { &columns.0 } else { &[] });
+    count.holds(0, if answer.is_ok() { &columns.1 } else { &[] });
+}
+
 /// Readings that would lengthen every occurrence stand before and after the log. They must not matter.
 fn check_tables(log: &[u8], rows: &Rows, rooms: &[usize]) {
     let n = log.len();
@@ -35,6 +45,8 @@ fn check_tables(log: &[u8], rows: &Rows, rooms: &[usize]) {
         check_table(finder::cover_table, log, &rows.cover, room, chance);
         for &other in rooms {
             check_enhanced(log, rows, [room, other], chance);
+            check_left(finder::left_covers, log, &rows.left_covers, [room, other], chance);
+            check_left(finder::left_seeds, log, &rows.left_seeds, [room, other], chance);
         }
     }
 }
@@ -55,14 +67,18 @@ fn longer_logs() {
 
 /// By what is known of a flat log: here the definitions alone would take too long.
 fn rows_of_flat(n: usize) -> Rows {
-    let column = |entry: &dyn Fn(usize) -> usize| (1..=n).map(|i| entry(i) as u16).collect();
+    let column = |entry: &dyn Fn(usize) -> usize| (1..=n).map(|i| entry(i) as u16).collect::<Vec<_>>();
+    let best = column(&|i| usize::from(i > 1));
+    let count = column(&|i| if i > 1 { i } else { 0 });
     Rows {
         border: column(&|i| i - 1),
         prefix: column(&|i| n + 1 - i),
         cover: column(&|i| i - 1),
-        best: column(&|i| usize::from(i > 1)),
-        count: column(&|i| if i > 1 { i } else { 0 }),
+        best: best.clone(),
+        count: count.clone(),
         total: n.saturating_sub(1) as u32,
+        left_covers: (best.clone(), count.clone()),
+        left_seeds: (best, count),
     }
 }
 

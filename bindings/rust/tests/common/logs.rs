@@ -46,6 +46,11 @@ fn repeated(cycle: &[u8], n: usize) -> Vec<u8> {
     cycle.iter().copied().cycle().take(n).collect()
 }
 
+/// These readings, as long a run as is left, and the readings again.
+fn around_a_run(ends: &[u8], n: usize) -> Vec<u8> {
+    [ends, &vec![ends[0]; n - 2 * ends.len()], ends].concat()
+}
+
 fn with_defects(mut log: Vec<u8>, chance: &mut Chance) -> Vec<u8> {
     for _ in 0..1 + log.len() / 40 {
         let place = chance.below(log.len());
@@ -70,6 +75,8 @@ pub fn longer(longest: usize, rounds: u64) -> impl Iterator<Item = Vec<u8>> {
             with_defects(fibonacci(n), chance),
             fibonacci(n),
             vec![LETTERS[2]; n],
+            repeated(&random(2, (n + 1) / 2, chance), n),
+            around_a_run(&random(3, 3 * n / 8, chance), n),
         ]
     })
 }

@@ -11,13 +11,24 @@ fn borders(x: &[u8], i: usize) -> Vec<usize> {
     (1..i).filter(|&q| ends(x, q, i)).collect()
 }
 
-/// How many positions of the prefix of length i lie inside an occurrence of the pattern of length q that ends within it.
-fn covered(x: &[u8], i: usize, q: usize) -> usize {
+/// The ends within the prefix of length i of the occurrences of the pattern of length q.
+fn occurrences(x: &[u8], i: usize, q: usize) -> impl Iterator<Item = usize> + '_ {
+    (q..=i).filter(move |&e| ends(x, q, e))
+}
+
+/// Which positions of the prefix of length i lie inside an occurrence of the pattern of length q that ends within it.
+fn inside(x: &[u8], i: usize, q: usize) -> Vec<bool> {
     let mut inside = vec![false; i];
-    for e in (q..=i).filter(|&e| ends(x, q, e)) {
-        inside[e - q..e].fill(true);
-    }
+    occurrences(x, i, q).for_each(|e| inside[e - q..e].fill(true));
+    inside
+}
+
+fn how_many(inside: Vec<bool>) -> usize {
     inside.into_iter().filter(|&p| p).count()
+}
+
+fn covered(x: &[u8], i: usize, q: usize) -> usize {
+    how_many(inside(x, i, q))
 }
 
 pub fn covers(x: &[u8], i: usize, q: usize) -> bool {
@@ -38,17 +49,42 @@ pub fn cover(x: &[u8], i: usize) -> usize {
     borders(x, i).into_iter().rev().find(|&q| covers(x, i, q)).unwrap_or(0)
 }
 
-/// Best and Count: a longer border has to cover more to be taken.
-pub fn enhanced(x: &[u8], i: usize) -> (usize, usize) {
+/// Of rising patterns the one that covers the most, and how many: a longer one has to cover more to be taken.
+fn most(patterns: impl Iterator<Item = usize>, covered: impl Fn(usize) -> usize) -> (usize, usize) {
     let weigh = |best: (usize, usize), q| {
-        let count = covered(x, i, q);
+        let count = covered(q);
         if count > best.1 {
             (q, count)
         } else {
             best
         }
     };
-    borders(x, i).into_iter().fold((0, 0), weigh)
+    patterns.fold((0, 0), weigh)
+}
+
+/// Best and Count.
+pub fn enhanced(x: &[u8], i: usize) -> (usize, usize) {
+    most(borders(x, i).into_iter(), |q| covered(x, i, q))
+}
+
+/// The patterns that occur at least twice in the prefix of length i, rising. Where one does not, no longer one does.
+fn twice(x: &[u8], i: usize) -> impl Iterator<Item = usize> + '_ {
+    (1..i).take_while(move |&q| occurrences(x, i, q).count() > 1)
+}
+
+fn left_cover(x: &[u8], i: usize) -> (usize, usize) {
+    most(twice(x, i), |q| covered(x, i, q))
+}
+
+/// What is covered, and what the starts of the pattern that end at i lie on.
+fn sown(x: &[u8], i: usize, q: usize) -> usize {
+    let mut inside = inside(x, i, q);
+    (1..q).filter(|&m| ends(x, m, i)).for_each(|m| inside[i - m..].fill(true));
+    how_many(inside)
+}
+
+fn left_seed(x: &[u8], i: usize) -> (usize, usize) {
+    most(twice(x, i), |q| sown(x, i, q))
 }
 
 pub fn normal(x: &[u8], i: usize) -> Normal {
@@ -97,7 +133,10 @@ pub fn ceiling(x: &[u8]) -> Ceiling {
     Ceiling { held: others.last().map_or(true, |(place, _)| place + 60 < x.len()), ceiling }
 }
 
-/// The five columns of a log and its weighed total.
+/// Patterns, and how many positions they cover.
+pub type Pair = (Vec<u16>, Vec<u16>);
+
+/// The five columns of a log and its weighed total; its left covers and left seeds.
 pub struct Rows {
     pub border: Vec<u16>,
     pub prefix: Vec<u16>,
@@ -105,10 +144,13 @@ pub struct Rows {
     pub best: Vec<u16>,
     pub count: Vec<u16>,
     pub total: u32,
+    pub left_covers: Pair,
+    pub left_seeds: Pair,
 }
 
 pub fn rows(x: &[u8]) -> Rows {
     let column = |entry: &dyn Fn(usize) -> usize| (1..=x.len()).map(|i| entry(i) as u16).collect();
+    let pair = |entry: &dyn Fn(usize) -> (usize, usize)| (1..=x.len()).map(entry).map(|(q, count)| (q as u16, count as u16)).unzip();
     Rows {
         border: column(&|i| border(x, i)),
         prefix: column(&|i| prefix(x, i)),
@@ -116,6 +158,8 @@ pub fn rows(x: &[u8]) -> Rows {
         best: column(&|i| enhanced(x, i).0),
         count: column(&|i| enhanced(x, i).1),
         total: (1..=x.len()).map(|i| uncovered_borders(x, i).len() as u32).sum(),
+        left_covers: pair(&|i| left_cover(x, i)),
+        left_seeds: pair(&|i| left_seed(x, i)),
     }
 }
 
