@@ -46,9 +46,14 @@ def cover(x, i):
     return max((q for q in range(1, i) if covers(x, i, q)), default=0)
 
 
-def best_and_count(x, i):
-    count, shorter = max(((covered(x, i, m), -m) for m in borders(x, i)), default=(0, 0))
+def shortest_of_the_most(patterns, worth):
+    """Of the patterns the shortest of those that are worth the most, and how much that is."""
+    count, shorter = max(((worth(q), -q) for q in patterns), default=(0, 0))
     return -shorter, count
+
+
+def best_and_count(x, i):
+    return shortest_of_the_most(borders(x, i), lambda m: covered(x, i, m))
 
 
 def best(x, i):
@@ -57,6 +62,26 @@ def best(x, i):
 
 def count(x, i):
     return best_and_count(x, i)[1]
+
+
+def repeated(x, i):
+    """The patterns that occur at least twice in the first i readings."""
+    return [q for q in range(1, i) if len(occurrences(x, q, i)) > 1]
+
+
+def sown(x, i, q):
+    """How many of the first i positions the first q readings cover, also with their starts that end at i."""
+    starts = [m for m in borders(x, i) if m < q]
+    inside = {p for j in occurrences(x, q, i) for p in range(j, j + q)} | {p for m in starts for p in range(i - m, i)}
+    return len(inside)
+
+
+def left_cover_and_count(x, i):
+    return shortest_of_the_most(repeated(x, i), lambda q: covered(x, i, q))
+
+
+def left_seed_and_count(x, i):
+    return shortest_of_the_most(repeated(x, i), lambda q: sown(x, i, q))
 
 
 def normal(x, i):

@@ -19,7 +19,7 @@ fn same(a: &[u8], b: &[u8]) -> bool {
 }
 
 // The first q readings occur after j readings.
-fn occurs(x: &[u8], q: usize, j: usize) -> bool {
+pub fn occurs(x: &[u8], q: usize, j: usize) -> bool {
     if x.len() < q {
         return false;
     }
@@ -77,7 +77,7 @@ fn mark(marks: &mut [u8]) {
 }
 
 // Marks what the occurrence of the first q readings after j readings lies on, if there is one and it ends where the marks end or before.
-fn mark_occurrence(marks: &mut [u8], x: &[u8], q: usize, j: usize) {
+pub fn mark_occurrence(marks: &mut [u8], x: &[u8], q: usize, j: usize) {
     if marks.len() < q {
         return;
     }
@@ -89,13 +89,13 @@ fn mark_occurrence(marks: &mut [u8], x: &[u8], q: usize, j: usize) {
     }
 }
 
-fn mark_occurrences(marks: &mut [u8], x: &[u8], q: usize) {
+pub fn mark_occurrences(marks: &mut [u8], x: &[u8], q: usize) {
     for j in 0..marks.len() {
         mark_occurrence(marks, x, q, j);
     }
 }
 
-fn marked(marks: &[u8]) -> usize {
+pub fn marked(marks: &[u8]) -> usize {
     let mut count = 0;
     for p in 0..marks.len() {
         count += one_if(marks[p] == 1);
