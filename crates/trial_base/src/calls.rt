@@ -31,15 +31,41 @@ pub const PLANT_FILE: u8 = 26;
 
 pub const CEILING: u8 = 27;
 
+pub const LEFT_COVERS: u8 = 30;
+
+pub const LEFT_COVER: u8 = 31;
+
+pub const LEFT_COVER_COUNT: u8 = 32;
+
+pub const LEFT_SEEDS: u8 = 40;
+
+pub const LEFT_SEED: u8 = 41;
+
+pub const LEFT_SEED_COUNT: u8 = 42;
+
+// Which of the two tables of a call.
+fn table(whole: bool, call: u8) -> bool {
+    match call {
+        BEST | LEFT_COVER | LEFT_SEED => say(whole, b", best"),
+        COUNT | LEFT_COVER_COUNT | LEFT_SEED_COUNT => say(whole, b", count"),
+        _ => whole,
+    }
+}
+
 fn column(whole: bool, call: u8) -> bool {
     match call {
         BORDER => say(whole, b" border_table"),
         PREFIX => say(whole, b" prefix_table"),
         COVER => say(whole, b" cover_table"),
-        BEST => say(whole, b" enhanced_table, best"),
-        COUNT => say(whole, b" enhanced_table, count"),
-        ENHANCED => say(whole, b" enhanced_table"),
+        BEST | COUNT | ENHANCED => table(say(whole, b" enhanced_table"), call),
         _ => say(whole, b" window"),
+    }
+}
+
+fn left(whole: bool, call: u8) -> bool {
+    match call {
+        LEFT_COVERS | LEFT_COVER | LEFT_COVER_COUNT => table(say(whole, b" left_covers"), call),
+        _ => table(say(whole, b" left_seeds"), call),
     }
 }
 
@@ -58,6 +84,9 @@ fn answer(whole: bool, call: u8) -> bool {
 
 // Prints the name.
 pub fn name(whole: bool, call: u8) -> bool {
+    if LEFT_COVERS <= call {
+        return left(whole, call);
+    }
     if NORMAL <= call {
         return answer(whole, call);
     }

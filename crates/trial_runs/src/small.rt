@@ -25,14 +25,24 @@ fn two_more(n: usize) -> usize {
     std::num::wrapping_add_usize(n, 2)
 }
 
-// Every call but windows, with tables that fit, that are longer and that are too short.
+// The left covers and left seeds, with tables that fit, that are longer and that are too short.
+fn lefts(t: Tally, w: Way, x: &[u8]) -> Tally {
+    let n = x.len();
+    let t1 = trial_left::with_rooms(t, w, x, n, two_more(n));
+    let t2 = trial_left::with_rooms(t1, w, x, two_more(n), n);
+    let t3 = trial_left::with_rooms(t2, w, x, one_less(n), n);
+    trial_left::with_rooms(t3, w, x, n, one_less(n))
+}
+
+// Every call but windows, with such tables.
 pub fn every_call(t: Tally, w: Way, x: &[u8]) -> Tally {
     let n = x.len();
     let t1 = trial_tables::with_rooms(t.more(), w, x, n, two_more(n));
     let t2 = trial_tables::with_rooms(t1, w, x, two_more(n), n);
     let t3 = trial_tables::with_rooms(t2, w, x, one_less(n), n);
     let t4 = trial_tables::enhanced(t3, w, x, n, one_less(n));
-    trial_answers::all(t4, w, x)
+    let t5 = lefts(t4, w, x);
+    trial_answers::all(t5, w, x)
 }
 
 // The window of m after a, and two whose sum comes round to a where it is made in a machine word.

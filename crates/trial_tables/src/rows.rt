@@ -32,13 +32,24 @@ pub fn part(x: &[u8], s: Span) -> &[u8] {
     &x[from..to]
 }
 
-fn second_way(call: u8, x: &[u8], i: usize) -> usize {
+// A column of a log or of a window.
+fn column(call: u8, x: &[u8], i: usize) -> usize {
     match call % 10 {
         calls::BORDER => second::border(x, i),
         calls::PREFIX => second::prefix(x, i),
         calls::COVER => second::cover(x, i),
         calls::BEST => second::best(x, i),
         _ => second::count(x, i),
+    }
+}
+
+fn second_way(call: u8, x: &[u8], i: usize) -> usize {
+    match call {
+        calls::LEFT_COVER => second_left::cover(x, i).best,
+        calls::LEFT_COVER_COUNT => second_left::cover(x, i).count,
+        calls::LEFT_SEED => second_left::seed(x, i).best,
+        calls::LEFT_SEED_COUNT => second_left::seed(x, i).count,
+        _ => column(call, x, i),
     }
 }
 
