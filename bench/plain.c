@@ -177,6 +177,8 @@ static seed search(const bed *k, size_t i, size_t b)
     for (size_t q = k->under[k->twice]; q > 0; q = k->under[q - 1]) {
         if (q <= start)
             start = k->fall[start];
+        if (k->covered[q] + start < best.row.most)
+            continue;
         size_t now = k->covered[q] + least(start, i - k->last[q]);
         if (now >= best.row.most)
             best = (seed){{q, now}, start};

@@ -180,9 +180,11 @@ impl Bed {
             if q <= start {
                 start = self.fall[start as usize];
             }
-            let now = self.covered[at] + start.min(i as u16 - self.last[at]);
-            if now >= best.row.most {
-                best = Seed { row: Row { pattern: q, most: now }, start };
+            if self.covered[at] + start >= best.row.most {
+                let now = self.covered[at] + start.min(i as u16 - self.last[at]);
+                if now >= best.row.most {
+                    best = Seed { row: Row { pattern: q, most: now }, start };
+                }
             }
             q = self.under[at - 1];
         }

@@ -16,6 +16,8 @@ STRINGS = {
     "P6": "ababaababa",
     "P7": "abaababaababa",
     "P8": "ababaabaababa" + "ba" + "ababaabaababa",
+    "left": "abaabab",
+    "shorter seed": "abaabaab",
 }
 
 # Logs at the edges of held.
@@ -46,6 +48,8 @@ KNOWN = {
     ],
     "P7": ["normal 5 3 2", "covers 3 8 13", "breakdown 13 3 1"],
     "P8": ["normal 15 13 1", "covers 3 28", "breakdown 28 13 5 1", "weighed 3 1"],
+    "left": ["left cover 0 0 1 1 2 3 2", "left count 0 0 2 3 4 6 6", "left seed 0 0 1 1 2 3 3", "seed count 0 0 2 3 4 6 7"],
+    "shorter seed": ["best 0 0 1 1 2 3 4 5", "count 0 0 2 3 4 6 7 8", "left seed 0 0 1 1 2 3 3 3", "seed count 0 0 2 3 4 6 7 8"],
     "window 5 5": ["border 0 0 1 2 3", "cover 0 0 0 2 3", "best 0 0 1 2 3", "count 0 0 2 4 5"],
     "window 5 6": ["number 3"],
     "window 10 0": ["number 3"],
@@ -60,6 +64,13 @@ KNOWN = {
 }
 
 COLUMNS = [("border", by.border), ("prefix", by.prefix), ("cover", by.cover), ("best", by.best), ("count", by.count)]
+
+LEFTS = [
+    ("left cover", lambda x, i: by.left_cover_and_count(x, i)[0]),
+    ("left count", lambda x, i: by.left_cover_and_count(x, i)[1]),
+    ("left seed", lambda x, i: by.left_seed_and_count(x, i)[0]),
+    ("seed count", lambda x, i: by.left_seed_and_count(x, i)[1]),
+]
 
 ROOM, FILLER = 12, 77
 
@@ -80,6 +91,7 @@ def string_lines(x):
     return [
         *[by.line(name, by.column(row, x)) for name, row in COLUMNS],
         by.line("total", [by.total(x)]),
+        *[by.line(name, by.column(row, x)) for name, row in LEFTS],
         by.line("normal", by.normal(x, n)),
         by.line("breakdown", by.breakdown(x)),
         by.line("covers", by.cover_list(x)),

@@ -73,6 +73,21 @@ pub fn tables(x: &[u8]) -> bool {
     say_columns(x.len(), &border, &prefix, &cover, &best, &count) && say_total(w.total)
 }
 
+// The left covers and left seeds.
+pub fn lefts(x: &[u8]) -> bool {
+    let mut cover = [0u16; ROWS];
+    let mut count = [0u16; ROWS];
+    let mut seed = [0u16; ROWS];
+    let mut reach = [0u16; ROWS];
+    finder::left_covers(x, &mut cover, &mut count);
+    finder::left_seeds(x, &mut seed, &mut reach);
+    let n = x.len();
+    say_first(b"left cover", &cover, n)
+        && say_first(b"left count", &count, n)
+        && say_first(b"left seed", &seed, n)
+        && say_first(b"seed count", &reach, n)
+}
+
 // A window of x, with all rows of tables that held 77 everywhere before.
 pub fn window(x: &[u8], a: u16, m: u16) -> bool {
     let mut border = [77u16; 12];

@@ -1,4 +1,4 @@
-// Writes what every call answers on the strings with known results, P1 to P8; then the windows of P6, and logs at the edges of held.
+// Writes what every call answers on the strings with known results, P1 to P8 and those of left covers and left seeds; then the windows of P6, and logs at the edges of held.
 ghost use Prim.Native.Nat.{_≤_};
 ghost use lib.ListN.{length};
 
@@ -10,6 +10,7 @@ fn string(name: &[u8], x: &[u8]) -> bool
         && output::write(x)
         && output::write(b"\n")
         && listing::tables(x)
+        && listing::lefts(x)
         && listing::answers(x)
 }
 
@@ -22,6 +23,8 @@ fn strings() -> bool {
         && string(b"P6", b"ababaababa")
         && string(b"P7", b"abaababaababa")
         && string(b"P8", b"ababaabaabababaababaabaababa")
+        && string(b"left", b"abaabab")
+        && string(b"shorter seed", b"abaabaab")
 }
 
 fn windows() -> bool {
