@@ -1,5 +1,4 @@
 -- What each way through the functions of the candidates comes to, on plain lists and numbers. Assumes nothing.
-use mathlib.Core.Bool.{Bool, true}
 use mathlib.Core.Path.{_≡_, refl, sym, ap, _∙_}
 use mathlib.Core.List.{List}
 use mathlib.Core.Logic.{_⊎_, inl, inr, ⊎-elim}
@@ -10,18 +9,18 @@ use lib.Dec.{eqb}
 use lib.ListN.{length, getD}
 use mir.Syntax.{w16, w64}
 use mir.Val.{Fits}
-use Rattle.words.specs.Words.{border, cover, covered}
+use Rattle.words.specs.Words.{border, cover}
 use Rattle.words.specs.Tables.{borderRow, coverRow}
 use Rattle.words.specs.Refusals.{longest}
 use Rattle.words.proofs.Tests.{le-or-lt}
 use Rattle.words.proofs.Tops.{Top, Under, top-none, top-join}
 use Rattle.words.proofs.Tables.{Holds, Filled}
-use Rattle.words.proofs.Borders.{Border, border-border, border-lt, border-most}
+use Rattle.words.proofs.Borders.{border-border, border-lt, border-most}
 use Rattle.words.proofs.Counts.{covered-le, covered-stays}
 use Rattle.words.proofs.Occurrences.{eqb-refl}
 use Rattle.enhanced.specs.Tallies.{Tally, Tallies}
 use Rattle.repeats.specs.Repeats.{reached}
-use Rattle.repeats.proofs.Repeating.{Repeats, repeats-shorter, repeats-border}
+use Rattle.repeats.proofs.Repeating.{repeats-shorter, repeats-border}
 use Rattle.repeats.proofs.Seeds.{repeats-reached}
 use Rattle.repeats.proofs.Starts.{start, start-none, start-lt, start-is, start-most, start-border, start-inner, reached-count}
 use Rattle.repeats.proofs.LeftSeeds.{Bare, seed-all}

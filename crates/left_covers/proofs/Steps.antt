@@ -1,7 +1,7 @@
 -- What each turn of the loop and the two calls come to, on plain lists and numbers. Assumes nothing.
 use mathlib.Core.Bool.{Bool, true, false}
-use mathlib.Core.Path.{_≡_, refl, sym, ap, _∙_}
-use mathlib.Core.List.{List, _++_}
+use mathlib.Core.Path.{_≡_, sym, ap, _∙_}
+use mathlib.Core.List.{List}
 use mathlib.Core.Logic.{⊎-elim}
 use Prim.Native.Nat.{ℕ, _+_, _≤_, _<_}
 use native.Mathlib.Omega.{arith}
@@ -10,7 +10,6 @@ use lib.ListN.{length, getD, set}
 use lib.Seq.{set-getD}
 use Rattle.words.specs.Tables.{Column, bestRow, countRow, written}
 use Rattle.words.specs.Refusals.{longest}
-use Rattle.words.proofs.Tops.{Top}
 use Rattle.words.proofs.Tables.{Room, Holds, Rows, rows-more, length-written, written-stays, written-again}
 use Rattle.words.proofs.Occurrences.{eqb-refl}
 use Rattle.words.proofs.Counts.{covered-le}

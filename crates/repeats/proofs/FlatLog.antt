@@ -1,8 +1,8 @@
 -- The flat log: at every prefix of two readings or more its left cover and its left seed are a pattern of one reading that accounts for all. Assumes nothing.
-use mathlib.Core.Path.{_≡_, sym, _∙_}
+use mathlib.Core.Path.{_≡_, _∙_}
 use mathlib.Core.List.{List}
 use mathlib.Core.Logic.{inr}
-use Prim.Native.Nat.{ℕ, _≤_, _<_}
+use Prim.Native.Nat.{ℕ, _≤_}
 use native.Mathlib.Nat.{le-antisymm}
 use native.Mathlib.Omega.{arith}
 use lib.Dec.{eqb}
@@ -12,7 +12,7 @@ use Rattle.words.proofs.Covers.{covers-border}
 use Rattle.words.proofs.Counts.{covered-all}
 use Rattle.words.proofs.FlatLog.{flat, flat-covers}
 use Rattle.repeats.specs.Repeats.{leftCover, leftCount, reached, leftSeed, seedCount}
-use Rattle.repeats.proofs.Repeating.{Repeats, repeats-border}
+use Rattle.repeats.proofs.Repeating.{repeats-border}
 use Rattle.repeats.proofs.LeftCovers.{left-whole}
 use Rattle.repeats.proofs.Seeds.{reached-le, reached-covered, seed-seed, seed-one}
 

@@ -1,24 +1,22 @@
 -- The left cover. Where each reading agrees with itself it is the best so far of the enhanced table: the greatest Count at any j up to i, and of equals the
 -- smaller Best. Where a border covers all, it is Best. Assumes nothing.
-use mathlib.Core.Bool.{Bool, true, false, cond, true≢false}
-use mathlib.Core.Path.{_≡_, refl, sym, ap, _∙_}
+use mathlib.Core.Bool.{Bool}
+use mathlib.Core.Path.{_≡_, sym, _∙_}
 use mathlib.Core.List.{List}
 use mathlib.Core.Logic.{_⊎_, inl, inr, ⊎-elim}
 use Prim.Native.Nat.{ℕ, zero, suc, _+_, _≤_, _<_}
-use native.Mathlib.Nat.{eq-or-lt-of-le}
 use native.Mathlib.Numerals.{add-one}
 use native.Mathlib.Omega.{arith}
 use Rattle.words.specs.Words.{covered, best, count}
-use Rattle.words.proofs.Tests.{cond-case}
 use Rattle.words.proofs.Search.{some-howMany}
-use Rattle.words.proofs.Tops.{Top, Wins, Under, wins-or, top-none, top-one, top-peak, top-join}
+use Rattle.words.proofs.Tops.{Top, Wins, Under, wins-or, top-none, top-one, top-join}
 use Rattle.words.proofs.Occurrences.{Reflexive}
 use Rattle.words.proofs.Borders.{Border}
 use Rattle.words.proofs.Covers.{Covers, inside-iff, covers-border}
 use Rattle.words.proofs.Counts.{covered-le, covered-all, all-covered, covered-wider}
 use Rattle.words.proofs.Bests.{Best, Nonempty, best-best, best-zero, count-le}
-use Rattle.repeats.specs.Repeats.{repeats, leftWorth, leftCover, leftCount}
-use Rattle.repeats.proofs.Repeating.{Repeats, Before, repeats-iff, repeats-none, repeats-wider, repeats-border, repeats-step}
+use Rattle.repeats.specs.Repeats.{leftCover, leftCount}
+use Rattle.repeats.proofs.Repeating.{Repeats, Before, repeats-top, repeats-none, repeats-wider, repeats-border, repeats-step}
 
 -- q is the shortest of the prefixes of x[1..i] that repeat and cover the most, k positions; both are 0 where none repeats
 abbrev pub LeftCover : (ℕ → ℕ → Bool) → List ℕ → ℕ → ℕ → ℕ → Type 0
@@ -38,10 +36,8 @@ module _ (ag : ℕ → ℕ → Bool) (x : List ℕ) where
 
   module _ (i : ℕ) where
     pub left-left : LeftCover ag x i (leftCover ag x i) (leftCount ag x i)
-    unfolding leftCover leftCount leftWorth
-    left-left = top-peak (repeats-covered i) (leftWorth ag x i) i
-        (λ q t. (t .proper, rw (repeats-iff ag x i q .1 t)))
-        (λ q. cond-case (λ (r : ℕ). 0 < r → Repeats ag x i q) (repeats ag x i q) (λ e _. repeats-iff ag x i q .0 e) (λ _ l. absurd (omega arith)))
+    unfolding leftCover leftCount
+    left-left = repeats-top ag x i (covered ag x i) (repeats-covered i)
 
     pub left-one : {b k c n : ℕ} → LeftCover ag x i b k → LeftCover ag x i c n → (b ≡ c) × (k ≡ n)
     left-one = top-one (repeats-covered i)

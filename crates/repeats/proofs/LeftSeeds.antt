@@ -1,6 +1,6 @@
 -- The left seed, from one reading to the next and from the left cover. Assumes nothing.
 use mathlib.Core.Bool.{Bool, true}
-use mathlib.Core.Path.{_≡_, refl, sym, ap, _∙_}
+use mathlib.Core.Path.{_≡_}
 use mathlib.Core.List.{List}
 use mathlib.Core.Logic.{_⊎_, inl, inr, ⊎-elim}
 use Prim.Native.Nat.{ℕ, _+_, _-_, _≤_, _<_}
@@ -8,14 +8,14 @@ use native.Mathlib.Nat.{le-trans}
 use native.Mathlib.Omega.{arith}
 use lib.Dec.{eqb}
 use lib.ListN.{getD}
-use Rattle.words.specs.Words.{border, cover, covered}
+use Rattle.words.specs.Words.{border, cover}
 use Rattle.words.proofs.Tops.{Top, Wins, Under, top-none, top-join}
 use Rattle.words.proofs.Occurrences.{Occurs, Reflexive}
 use Rattle.words.proofs.Borders.{Border}
 use Rattle.words.proofs.Bests.{Best}
 use Rattle.words.proofs.Counts.{covered-through}
 use Rattle.words.proofs.Lossless.{root}
-use Rattle.repeats.specs.Repeats.{reached, leftCount, seedCount, leftCover, leftSeed}
+use Rattle.repeats.specs.Repeats.{reached, leftCount, seedCount, leftCover}
 use Rattle.repeats.proofs.Repeating.{Repeats, Before, repeats-none, repeats-shorter, repeats-wider, repeats-border, repeats-step}
 use Rattle.repeats.proofs.LeftCovers.{LeftCover, left-left}
 use Rattle.repeats.proofs.Seeds.{LeftSeed, seed-seed, reached-covered, reached-border, reached-step, reached-through}

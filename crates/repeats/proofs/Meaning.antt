@@ -1,7 +1,7 @@
 -- What left covers and left seeds mean, in the words that ask for them. Positions are numbered from 1, and a part of the log is a list, as in words/proofs/Meaning.
 -- Assumes nothing.
-use mathlib.Core.Bool.{Bool, true, _||_}
-use mathlib.Core.Path.{_≡_, sym, _∙_}
+use mathlib.Core.Bool.{true, _||_}
+use mathlib.Core.Path.{_≡_}
 use mathlib.Core.List.{List}
 use mathlib.Core.Logic.{_⊎_, inl, inr, ⊎-elim, _↔_}
 use Prim.Native.Nat.{ℕ, _+_, _-_, _≤_, _<_}
@@ -15,7 +15,7 @@ use Rattle.words.proofs.Meaning.{Suffix, OccursAt, LiesInside, suffix-iff, occu
 use Rattle.repeats.specs.Repeats.{repeats, leftCover, leftCount, begun, reached, leftSeed, seedCount}
 use Rattle.repeats.proofs.Repeating.{Repeats, repeats-iff}
 use Rattle.repeats.proofs.LeftCovers.{left-left, left-one}
-use Rattle.repeats.proofs.Seeds.{Begun, begun-iff, reached-iff, seed-seed, seed-one}
+use Rattle.repeats.proofs.Seeds.{Begun, reached-iff, seed-seed, seed-one}
 
 -- x[1..q] is a proper nonempty prefix of x[1..i] that occurs at least twice in it
 pub record OccursTwice (x : List ℕ) (i q : ℕ) : Type 0 where

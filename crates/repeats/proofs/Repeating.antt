@@ -8,13 +8,15 @@ use native.Mathlib.Nat.{eq-or-lt-of-le}
 use native.Mathlib.Omega.{arith}
 use lib.Dec.{leb, ltb}
 use borrow.Author.Tests.{leb-true, le-leb, ltb-true, lt-ltb}
+use Rattle.words.specs.Search.{peak}
 use Rattle.words.specs.Words.{occurs, isBorder, covered}
-use Rattle.words.proofs.Tests.{and-left, and-right, and-both, and3, by-test}
+use Rattle.words.proofs.Tests.{and-left, and-right, and-both, and3, by-test, cond-case}
 use Rattle.words.proofs.Search.{two-howMany, howMany-two}
+use Rattle.words.proofs.Tops.{Top, top-peak}
 use Rattle.words.proofs.Occurrences.{Occurs, Reflexive, occurs-iff, occurs-same, occurs-shorter, occurs-self}
 use Rattle.words.proofs.Borders.{Border, isBorder-iff}
 use Rattle.words.proofs.Counts.{covered-stays}
-use Rattle.repeats.specs.Repeats.{times, repeats}
+use Rattle.repeats.specs.Repeats.{times, repeats, worthBy}
 
 -- x[1..q] is a proper nonempty prefix of x[1..i], and occurs in it after `first` and after `second` readings
 pub record Repeats (ag : ℕ → ℕ → Bool) (x : List ℕ) (i q : ℕ) : Type 0 where
@@ -121,3 +123,11 @@ module _ (ag : ℕ → ℕ → Bool) (x : List ℕ) where
         repeats = record { some = t .some; proper = omega (arith, t .apart); first = t .first; second = t .second; apart = t .apart; within = last; one = t .one; two = t .two };
         covers = covered-stays ag x q i (i + 1) (omega arith) up-to;
       }))
+
+  -- the best of the prefixes that repeat, by any number that is not 0 at them
+  pub repeats-top : (i : ℕ) (g : ℕ → ℕ) → ((q : ℕ) → Repeats ag x i q → 0 < g q)
+      → Top (Repeats ag x i) g (peak (worthBy ag x g i) i) (worthBy ag x g i (peak (worthBy ag x g i) i))
+  unfolding worthBy
+  repeats-top i g some = top-peak some (worthBy ag x g i) i
+      (λ q t. (t .proper, rw (repeats-iff i q .1 t)))
+      (λ q. cond-case (λ (r : ℕ). 0 < r → Repeats ag x i q) (repeats ag x i q) (λ e _. repeats-iff i q .0 e) (λ _ l. absurd (omega arith)))

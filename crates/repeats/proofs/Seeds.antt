@@ -1,26 +1,25 @@
 -- The left seed: what a pattern reaches by its occurrences, and by a start of it that ends the prefix. Under any rule: one reading more reaches at most one
 -- position more, and what is reached beyond the last occurrence is the longest such start. Where readings agree by being equal, the shortest cover of a
 -- pattern reaches all that the pattern reaches. Assumes nothing.
-use mathlib.Core.Bool.{Bool, true, false, cond, _&&_, _||_}
-use mathlib.Core.Path.{_≡_, refl, sym, ap, _∙_}
+use mathlib.Core.Bool.{Bool, true, _&&_, _||_}
+use mathlib.Core.Path.{_≡_}
 use mathlib.Core.List.{List}
 use mathlib.Core.Logic.{_⊎_, inl, inr, ⊎-elim, _↔_}
-use Prim.Native.Nat.{ℕ, zero, suc, _+_, _-_, _≤_, _<_, min}
+use Prim.Native.Nat.{ℕ, _+_, _-_, _≤_, _<_}
 use native.Mathlib.Nat.{eq-or-lt-of-le}
 use native.Mathlib.Omega.{arith}
 use lib.Dec.{eqb, leb}
 use borrow.Author.Tests.{leb-true, le-leb}
 use Rattle.words.specs.Search.{howMany}
 use Rattle.words.specs.Words.{isBorder, inside, covered}
-use Rattle.words.proofs.Tests.{and-left, and-right, and-both, or-cases, or-left, or-right, cond-case, by-test, not-passed, both-ways, le-or-lt}
-use Rattle.words.proofs.Search.{any-some, some-any, howMany-le, howMany-hit, howMany-miss, howMany-all, howMany-none, howMany-same, howMany-mono}
-use Rattle.words.proofs.Tops.{Top, top-one, top-peak}
-use Rattle.words.proofs.Occurrences.{Occurs, occurs-same, occurs-shorter, occurs-through}
+use Rattle.words.proofs.Tests.{and-left, and-right, and-both, or-cases, or-left, or-right, by-test, both-ways, le-or-lt}
+use Rattle.words.proofs.Search.{any-some, some-any, howMany-le, howMany-hit, howMany-miss, howMany-same, howMany-mono}
+use Rattle.words.proofs.Tops.{Top, top-one}
+use Rattle.words.proofs.Occurrences.{occurs-same, occurs-shorter, occurs-through}
 use Rattle.words.proofs.Borders.{Border, isBorder-iff, border-shrink}
-use Rattle.words.proofs.Covers.{Inside, Covers, inside-iff, inside-wider}
-use Rattle.words.proofs.Counts.{covered-stays}
-use Rattle.repeats.specs.Repeats.{repeats, begun, reached, seedWorth, leftSeed, seedCount}
-use Rattle.repeats.proofs.Repeating.{Repeats, repeats-iff}
+use Rattle.words.proofs.Covers.{Inside, Covers, inside-iff}
+use Rattle.repeats.specs.Repeats.{begun, reached, leftSeed, seedCount}
+use Rattle.repeats.proofs.Repeating.{Repeats, repeats-top}
 use Rattle.repeats.proofs.LeftCovers.{repeats-covered}
 
 -- x[1..len] is shorter than x[1..q] and ends x[1..i], and the position after p readings lies in that end
@@ -82,10 +81,8 @@ module _ (ag : ℕ → ℕ → Bool) (x : List ℕ) where
 
   module _ (i : ℕ) where
     pub seed-seed : LeftSeed ag x i (leftSeed ag x i) (seedCount ag x i)
-    unfolding leftSeed seedCount seedWorth
-    seed-seed = top-peak (repeats-reached i) (seedWorth ag x i) i
-        (λ q t. (t .proper, rw (repeats-iff ag x i q .1 t)))
-        (λ q. cond-case (λ (r : ℕ). 0 < r → Repeats ag x i q) (repeats ag x i q) (λ e _. repeats-iff ag x i q .0 e) (λ _ l. absurd (omega arith)))
+    unfolding leftSeed seedCount
+    seed-seed = repeats-top ag x i (reached ag x i) (repeats-reached i)
 
     pub seed-one : {b k c n : ℕ} → LeftSeed ag x i b k → LeftSeed ag x i c n → (b ≡ c) × (k ≡ n)
     seed-one = top-one (repeats-reached i)

@@ -10,16 +10,16 @@ use native.Mathlib.Numerals.{add-one}
 use native.Mathlib.Omega.{arith}
 use lib.ListN.{getD}
 use lib.Dec.{eqb}
-use Rattle.words.specs.Search.{greatest, howMany}
+use Rattle.words.specs.Search.{greatest}
 use Rattle.words.specs.Words.{isBorder, border, inside, covered}
-use Rattle.words.proofs.Tests.{not-passed, both-ways, le-or-lt}
-use Rattle.words.proofs.Search.{greatest-lt, greatest-passes, greatest-most, greatest-is, greatest-same, howMany-hit, howMany-all, howMany-none, howMany-same, howMany-mono, howMany-more, howMany-longer}
+use Rattle.words.proofs.Tests.{not-passed, both-ways}
+use Rattle.words.proofs.Search.{greatest-lt, greatest-passes, greatest-most, greatest-is, greatest-same, howMany-hit, howMany-last, howMany-same, howMany-mono, howMany-more, howMany-longer}
 use Rattle.words.proofs.Occurrences.{Occurs, occurs-same}
-use Rattle.words.proofs.Borders.{Border, isBorder-iff, border-empty, border-border, border-most, border-is, border-grow, border-shrink, border-trans, border-inner}
-use Rattle.words.proofs.Covers.{Inside, inside-iff, inside-wider}
+use Rattle.words.proofs.Borders.{Border, isBorder-iff, border-empty, border-border, border-most, border-grow, border-shrink, border-trans, border-inner}
+use Rattle.words.proofs.Covers.{inside-iff, inside-wider}
 use Rattle.words.proofs.Counts.{covered-stays}
 use Rattle.repeats.specs.Repeats.{begun, reached}
-use Rattle.repeats.proofs.Seeds.{Begun, Reached, reached-iff}
+use Rattle.repeats.proofs.Seeds.{Reached, reached-iff}
 
 module _ (ag : ℕ → ℕ → Bool) (x : List ℕ) where
   unfoldable pub start : ℕ → ℕ → ℕ
@@ -87,20 +87,8 @@ module _ (ag : ℕ → ℕ → Bool) (x : List ℕ) where
     pub reached-count : reached ag x i q ≡ covered ag x i q + min m (i - e)
     unfolding reached covered
     reached-count =
-        let stay : howMany (inside ag x i q) i ≡ howMany (inside ag x e q) e = covered-stays ag x q e i within last in
-        let below : howMany u e ≡ howMany (inside ag x e q) e = howMany-same u (inside ag x e q) e low in
-        ⊎-elim
-        (λ (g : i - m ≤ e).
-        let new = howMany-all u e (i - e) (λ k l v. high k (omega arith) (omega arith)) in
-        let n : e + (i - e) ≡ i = omega arith in
-        omega (arith, rw n at new))
-        (λ (g : e < i - m).
-        let new = howMany-all u (i - m) m (λ k l v. high k l (omega arith)) in
-        let none = howMany-none u e (i - m - e) (λ k l v. gap k l (omega arith)) in
-        let n : i - m + m ≡ i = omega arith in
-        let d : e + (i - m - e) ≡ i - m = omega arith in
-        omega (arith, rw n at new, rw d at none))
-        (le-or-lt (i - m) e)
+        howMany-last u e i m within (omega (arith, start-border i q (omega arith) .below)) high gap
+        ∙ ap (λ (n : ℕ). n + min m (i - e)) (howMany-same u (inside ag x e q) e low ∙ sym (covered-stays ag x q e i within last))
 
   -- wherever its last end is, a start adds no more than its length
   pub reached-bound : (i q : ℕ) → 0 < i → reached ag x i q ≤ covered ag x i q + start i q

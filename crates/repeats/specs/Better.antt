@@ -2,7 +2,6 @@
 use mathlib.Core.Bool.{Bool, true, false}
 use mathlib.Core.Path.{_≡_}
 use mathlib.Core.Logic.{_⊎_}
-use Prim.Native.Nat.{ℕ}
 use Rattle.words.proofs.Tops.{Wins}
 use Rattle.repeats.specs.declared.Found.{Found}
 

@@ -17,15 +17,16 @@ module _ (ag : ℕ → ℕ → Bool) (x : List ℕ) where
   unfoldable pub repeats : ℕ → ℕ → Bool
   repeats i q = leb 1 q && ltb q i && leb 2 (times i q)
 
-  -- Left cover at i: what x[1..q] is worth is the positions that it covers, if it repeats. The left cover is the least q that is worth most
-  unfoldable pub leftWorth : ℕ → ℕ → ℕ
-  leftWorth i q = cond (repeats i q) (covered ag x i q) 0
+  -- what x[1..q] is worth at i, where g says how many positions a pattern accounts for: that number, if it repeats
+  unfoldable pub worthBy : (ℕ → ℕ) → ℕ → ℕ → ℕ
+  worthBy g i q = cond (repeats i q) (g q) 0
 
+  -- Left cover at i: the least q that is worth most by the positions that it covers
   unfoldable pub leftCover : ℕ → ℕ
-  leftCover i = peak (leftWorth i) i
+  leftCover i = peak (worthBy (covered ag x i) i) i
 
   unfoldable pub leftCount : ℕ → ℕ
-  leftCount i = leftWorth i (leftCover i)
+  leftCount i = worthBy (covered ag x i) i (leftCover i)
 
   -- the position after p readings lies in the start of a pattern x[1..q] not yet read to its end: in an x[1..m] with m < q that ends x[1..i]
   unfoldable pub begun : ℕ → ℕ → ℕ → Bool
@@ -35,15 +36,12 @@ module _ (ag : ℕ → ℕ → Bool) (x : List ℕ) where
   unfoldable pub reached : ℕ → ℕ → ℕ
   reached i q = howMany (λ p. inside ag x i q p || begun i q p) i
 
-  -- Left seed at i: the same patterns, each worth the positions that it reaches
-  unfoldable pub seedWorth : ℕ → ℕ → ℕ
-  seedWorth i q = cond (repeats i q) (reached i q) 0
-
+  -- Left seed at i: the same by the positions that it reaches
   unfoldable pub leftSeed : ℕ → ℕ
-  leftSeed i = peak (seedWorth i) i
+  leftSeed i = peak (worthBy (reached i) i) i
 
   unfoldable pub seedCount : ℕ → ℕ
-  seedCount i = seedWorth i (leftSeed i)
+  seedCount i = worthBy (reached i) i (leftSeed i)
 
 -- the columns that the two calls write
 abbrev pub leftCoverRow : Column

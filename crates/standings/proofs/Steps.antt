@@ -1,39 +1,34 @@
 -- What each way through the functions of the standings comes to, on plain lists and numbers. Assumes nothing.
-use mathlib.Core.Bool.{Bool, true}
+use mathlib.Core.Bool.{true}
 use mathlib.Core.Path.{_≡_, refl, sym, ap, _∙_}
 use mathlib.Core.List.{List}
 use mathlib.Core.Logic.{_⊎_, inl, inr, ⊎-elim}
 use Prim.Native.Nat.{ℕ, _+_, _-_, _≤_, _<_, max}
-use native.Mathlib.Nat.{not-suc-le-zero, lt-of-lt-of-le}
 use native.Mathlib.Omega.{arith}
 use lib.Dec.{eqb}
-use lib.ListN.{length, getD, set}
+use lib.ListN.{length, getD}
 use borrow.Author.Tests.{eq-eqb}
-use mir.Syntax.{w16, w64}
+use mir.Syntax.{w64}
 use mir.Val.{Fits}
 use Rattle.words.specs.Words.{border, covered}
-use Rattle.words.specs.Tables.{Column, borderRow, written}
 use Rattle.words.specs.Refusals.{longest}
-use Rattle.words.proofs.Tests.{le-or-lt, eq-or-ne}
-use Rattle.words.proofs.Tops.{Top, Wins, top-none}
-use Rattle.words.proofs.Tables.{Room, Holds, Filled, Rows, rows-more, written-holds}
+use Rattle.words.proofs.Tests.{le-or-lt}
 use Rattle.words.proofs.Occurrences.{eqb-refl}
 use Rattle.words.proofs.Borders.{Border, border-lt, border-border, border-most}
-use Rattle.words.proofs.Bests.{Nonempty, Best, best-best}
+use Rattle.words.proofs.Bests.{Nonempty, best-best}
 use Rattle.words.proofs.Counts.{covered-le}
-use Rattle.words.proofs.Weighs.{heaviestRow, heaviest-lt}
 use Rattle.enhanced.specs.declared.Pick.{Pick}
 use Rattle.enhanced.specs.Tallies.{Tally, Tallies, Judgement}
 use Rattle.repeats.specs.declared.Found.{Found}
 use Rattle.repeats.specs.Better.{Better}
-use Rattle.repeats.specs.Repeats.{reached, leftSeedRow, seedCountRow}
+use Rattle.repeats.specs.Repeats.{reached}
 use Rattle.repeats.proofs.Repeating.{Repeats, repeats-none, repeats-wider, repeats-border, repeats-step}
 use Rattle.repeats.proofs.LeftCovers.{LeftCover, left-none, left-stays, left-moves}
-use Rattle.repeats.proofs.Seeds.{LeftSeed, reached-le, seed-seed, seed-one}
+use Rattle.repeats.proofs.Seeds.{LeftSeed, reached-le}
 use Rattle.repeats.proofs.Starts.{start, start-none, start-lt, start-whole, start-end, start-grows, start-ends}
 use Rattle.repeats.proofs.LeftSeeds.{seed-none, seed-rests, seed-moves, seed-goes-on, left-bare}
 use Rattle.candidates.specs.declared.Seed.{Seed}
-use Rattle.candidates.specs.Candidates.{bareRow, fallRow, Sown, Far}
+use Rattle.candidates.specs.Candidates.{Sown, Far}
 use Rattle.standings.specs.declared.Standing.{Standing}
 use Rattle.standings.specs.Standings.{Columns, Goes, Ends, Ended, Turns, Stands, After, noStanding}
 

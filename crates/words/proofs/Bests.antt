@@ -1,6 +1,6 @@
 -- Best and Count under any rule: the two numbers of the table are those of the shortest of the nonempty borders that cover the most, and no
 -- other two are. Assumes nothing.
-use mathlib.Core.Bool.{Bool, cond}
+use mathlib.Core.Bool.{Bool}
 use mathlib.Core.Path.{_≡_, ap}
 use mathlib.Core.List.{List}
 use mathlib.Core.Logic.{⊎-elim}

@@ -1,19 +1,18 @@
 -- How many positions a pattern covers: from one end of an occurrence to the next the number grows by the positions that are new. Assumes nothing.
 use mathlib.Core.Bool.{Bool, true, false}
-use mathlib.Core.Path.{_≡_, sym, ap, _∙_}
+use mathlib.Core.Path.{_≡_, ap, _∙_}
 use mathlib.Core.List.{List}
 use mathlib.Core.Logic.{⊎-elim}
 use Prim.Native.Nat.{ℕ, _+_, _-_, _≤_, _<_, min}
 use native.Mathlib.Nat.{eq-or-lt-of-le, zero-add, le-trans}
 use native.Mathlib.Omega.{arith}
 use lib.Dec.{eqb}
-use Rattle.words.specs.Search.{howMany}
 use Rattle.words.specs.Words.{inside, covered}
-use Rattle.words.proofs.Tests.{not-passed, both-ways, le-or-lt}
-use Rattle.words.proofs.Search.{howMany-zero, howMany-all, howMany-none, howMany-le, howMany-full, howMany-longer, some-howMany, howMany-same, howMany-mono}
-use Rattle.words.proofs.Occurrences.{Occurs, Reflexive, occurs-through}
+use Rattle.words.proofs.Tests.{not-passed, both-ways}
+use Rattle.words.proofs.Search.{howMany-zero, howMany-all, howMany-none, howMany-last, howMany-le, howMany-full, howMany-longer, some-howMany, howMany-same, howMany-mono}
+use Rattle.words.proofs.Occurrences.{Occurs, occurs-through}
 use Rattle.words.proofs.Borders.{Border}
-use Rattle.words.proofs.Covers.{Inside, Covers, inside-iff, inside-wider, covers-self}
+use Rattle.words.proofs.Covers.{Covers, inside-iff, inside-wider}
 
 module _ (ag : ℕ → ℕ → Bool) (x : List ℕ) where
   pub covered-le : (i q : ℕ) → covered ag x i q ≤ i
@@ -99,20 +98,8 @@ module _ (ag : ℕ → ℕ → Bool) (x : List ℕ) where
       pub covered-next : covered ag x i q ≡ covered ag x r q + min q (i - r)
       unfolding covered
       covered-next =
-          let u : ℕ → Bool = inside ag x i q in
-          let low : howMany u r ≡ howMany (inside ag x r q) r = howMany-same u (inside ag x r q) r below in
-          ⊎-elim
-          (λ (g : i - q ≤ r).
-          let new = howMany-all u r (i - r) (λ k l v. top k (omega arith) (omega arith)) in
-          let n : r + (i - r) ≡ i = omega arith in
-          omega (arith, rw n at new))
-          (λ (g : r < i - q).
-          let new = howMany-all u (i - q) q (λ k l v. top k l (omega arith)) in
-          let none = howMany-none u r (i - q - r) (λ k l v. gap k l (omega arith)) in
-          let n : i - q + q ≡ i = omega arith in
-          let m : r + (i - q - r) ≡ i - q = omega arith in
-          omega (arith, rw n at new, rw m at none))
-          (le-or-lt (i - q) r)
+          howMany-last (inside ag x i q) r i q (omega arith) (omega arith) top gap
+          ∙ ap (λ (n : ℕ). n + min q (i - r)) (howMany-same (inside ag x i q) (inside ag x r q) r below)
 
 -- ---- where readings agree by being equal: a cover covers whatever the covered covers
 

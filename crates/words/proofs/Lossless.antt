@@ -1,10 +1,10 @@
 -- Weighing loses nothing, where readings agree by being equal: every nonempty border has a weighed one, no longer, that covers at least as much. So the
 -- best of the weighed, in a walk from the longest to the shortest, is the best of all borders. Assumes nothing.
 use mathlib.Core.Bool.{cond}
-use mathlib.Core.Path.{_≡_, refl, sym, ap, _∙_}
+use mathlib.Core.Path.{_≡_}
 use mathlib.Core.List.{List}
 use mathlib.Core.Logic.{_⊎_, inl, inr, ⊎-elim}
-use Prim.Native.Nat.{ℕ, zero, suc, _+_, _-_, _≤_, _<_, max}
+use Prim.Native.Nat.{ℕ, zero, suc, _-_, _≤_, _<_, max}
 use native.Mathlib.Nat.{eq-or-lt-of-le, le-trans}
 use native.Mathlib.Omega.{arith}
 use lib.Dec.{eqb, leb}

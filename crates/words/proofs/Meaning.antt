@@ -1,18 +1,18 @@
 -- What the definitions mean, in the words of the scope: each executable number is exactly the one that its sentence describes. Positions are numbered
 -- from 1 here, and a part of the log is a list: x[1..m] is `take m x`. Assumes nothing.
 use mathlib.Core.Bool.{Bool, true}
-use mathlib.Core.Path.{_≡_, refl, sym, ap, _∙_}
+use mathlib.Core.Path.{_≡_, sym, ap, _∙_}
 use mathlib.Core.List.{List}
 use mathlib.Core.Logic.{_⊎_, inl, inr, ⊎-elim, _↔_}
-use Prim.Native.Nat.{ℕ, suc, _+_, _-_, _≤_, _<_}
-use native.Mathlib.Nat.{le-antisymm, add-sub-cancel}
+use Prim.Native.Nat.{ℕ, _+_, _-_, _≤_, _<_}
+use native.Mathlib.Nat.{le-antisymm}
 use native.Mathlib.Omega.{arith}
 use lib.Dec.{eqb}
 use lib.ListN.{length, getD, take, drop, length-take, length-drop}
 use lib.Seq.{ext-getD, getD-take, getD-drop}
-use Rattle.words.specs.Words.{occurs, border, prefix, covers, cover, covered, best, count, coverList, weighed}
+use Rattle.words.specs.Words.{occurs, border, prefix, covers, cover, best, count, coverList, weighed}
 use Rattle.words.proofs.Listings.{Falling, Rising, falling-one, rising-one}
-use Rattle.words.proofs.Occurrences.{Occurs, occurs-iff, occurs-part, occurs-same, same, is-same}
+use Rattle.words.proofs.Occurrences.{occurs-iff, occurs-part, occurs-same, same, is-same}
 use Rattle.words.proofs.Borders.{Border, border-border, border-most}
 use Rattle.words.proofs.Prefixes.{Reaches, prefix-reaches, prefix-most}
 use Rattle.words.proofs.Covers.{Inside, Covers, covers-iff, cover-covers, cover-lt, cover-most}

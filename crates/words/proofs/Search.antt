@@ -1,9 +1,9 @@
 -- What each search of `specs/Search` finds. Assumes nothing.
-use mathlib.Core.Bool.{Bool, true, false, cond, _&&_, _||_, true≢false}
+use mathlib.Core.Bool.{Bool, true, false, cond, _||_, true≢false}
 use mathlib.Core.Path.{_≡_, refl, sym, ap, _∙_}
 use mathlib.Core.List.{List, [], _∷_, _++_}
-use mathlib.Core.Logic.{_⊎_, inl, inr, ⊎-elim, _↔_}
-use Prim.Native.Nat.{ℕ, zero, suc, _+_, _*_, _/_, _^_, _≤_, _<_}
+use mathlib.Core.Logic.{_⊎_, inl, inr, ⊎-elim}
+use Prim.Native.Nat.{ℕ, zero, suc, _+_, _-_, _*_, _/_, _^_, _≤_, _<_, min}
 use native.Mathlib.Nat.{not-suc-le-zero, le-of-suc-le-suc, eq-or-lt-of-le, le-antisymm, le-refl, add-zero, add-suc, two-pow-succ, suc-mul}
 use native.Mathlib.Numerals.{add-one}
 use native.Mathlib.Omega.{arith}
@@ -12,7 +12,7 @@ use lib.Seq.{getD-at}
 use lib.Dec.{ltb}
 use borrow.Author.Tests.{ltb-true, ltb-false}
 use Rattle.words.specs.Search.{all, any, howMany, greatest, peak, falling, rising, sum}
-use Rattle.words.proofs.Tests.{by-test, cond-case, not-passed, or-cases, or-left, or-right, and-left, and-right, and-both, last-or}
+use Rattle.words.proofs.Tests.{by-test, cond-case, not-passed, or-cases, or-left, or-right, and-left, and-right, and-both, last-or, le-or-lt}
 
 module _ (p : ℕ → Bool) where
   -- ---- all: every k below n passes
@@ -81,6 +81,22 @@ module _ (p : ℕ → Bool) where
   howMany-none m (suc d) h =
       let ih = howMany-none m d (λ k a b. h k a (omega arith)) in
       rw add-suc (step-false (m + d) (h (m + d) (omega arith) (omega arith)) ∙ ih)
+
+  -- of the numbers from e on the last m pass, and those before them fail
+  pub howMany-last : (e i m : ℕ) → e ≤ i → m ≤ i → ((k : ℕ) → i - m ≤ k → k < i → p k ≡ true) → ((k : ℕ) → e ≤ k → k < i - m → p k ≡ false)
+      → howMany p i ≡ howMany p e + min m (i - e)
+  howMany-last e i m h l top gap = ⊎-elim
+      (λ (g : i - m ≤ e).
+      let new = howMany-all e (i - e) (λ k a b. top k (omega arith) (omega arith)) in
+      let n : e + (i - e) ≡ i = omega arith in
+      omega (arith, rw n at new))
+      (λ (g : e < i - m).
+      let new = howMany-all (i - m) m (λ k a b. top k a (omega arith)) in
+      let none = howMany-none e (i - m - e) (λ k a b. gap k a (omega arith)) in
+      let n : i - m + m ≡ i = omega arith in
+      let d : e + (i - m - e) ≡ i - m = omega arith in
+      omega (arith, rw n at new, rw d at none))
+      (le-or-lt (i - m) e)
 
   pub howMany-le : (n : ℕ) → howMany p n ≤ n
   unfolding howMany
