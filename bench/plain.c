@@ -169,12 +169,21 @@ typedef struct {
     size_t start;
 } seed;
 
+/* Compiled for pairs.c, the search tells how many patterns it looks at. */
+#ifdef PAIRS
+size_t pairs;
+#define LOOKED_AT pairs++
+#else
+#define LOOKED_AT (void)0
+#endif
+
 /* Every prefix without a proper cover that has occurred twice, longest first. */
 static seed search(const bed *k, size_t i, size_t b)
 {
     seed best = {{0, 0}, 0};
     size_t start = b;
     for (size_t q = k->under[k->twice]; q > 0; q = k->under[q - 1]) {
+        LOOKED_AT;
         if (q <= start)
             start = k->fall[start];
         if (k->covered[q] + start < best.row.most)

@@ -1,4 +1,4 @@
-"""Turns what was measured into Markdown tables and a plot: report.py COUNTS TIMES STACK BUILT FILE.md"""
+"""Turns what was measured into Markdown tables and a plot: report.py COUNTS TIMES PAIRS STACK BUILT FILE.md"""
 import math
 import re
 import sys
@@ -37,6 +37,12 @@ def read_times(path):
     return Measured(line.split() for line in path.read_text().splitlines())
 
 
+def read_pairs(path):
+    """A line a log: its kind, n, and how many pairs of a reading and a pattern its left seeds take; for each reading."""
+    rows = (line.split() for line in path.read_text().splitlines())
+    return {(kind, int(n)): int(pairs) / int(n) for kind, n, pairs in rows}
+
+
 def table(measured, sizes, cell):
     lines = ["| log | n | " + " | ".join(CALLS) + " |", "|---|---:|" + "---:|" * len(CALLS)]
     for kind in measured.kinds(*CALLS):
@@ -60,7 +66,7 @@ def stack_table(path):
     return "\n".join(["| call | bytes |", "|---|---:|"] + [f"| {call} | {int(size):,} |" for call, size in rows])
 
 
-def markdown(counts, times, stack, built, plot):
+def markdown(counts, times, pairs, stack, built, plot):
     def proved(call, kind, n):
         cost = counts("proved", call, kind, n)
         return f"{cost:.1f} ({cost / counts('c', call, kind, n):.2f})"
@@ -73,6 +79,12 @@ def markdown(counts, times, stack, built, plot):
 
     def all_three(call, kind, n):
         return f"{proved(call, kind, n)} {counts('rust', call, kind, n):.1f}"
+
+    def looked_at(call, kind, n):
+        """With what a pair costs: what the pairs that come with twice the length add."""
+        more = pairs[kind, n] - pairs.get((kind, n // 2), pairs[kind, n])
+        cost = counts("proved", call, kind, n) - counts("proved", call, kind, n // 2) if more > 1 else 0
+        return f"{pairs[kind, n]:.1f}" + (f" ({cost / more:.1f})" if more > 1 else "")
 
     def time(call, kind, n):
         return " / ".join(f"{times(who, call, kind, n):.1f}" for who in ("proved", "c", "rust"))
@@ -99,6 +111,10 @@ Instructions of `left_covers`, in those of `enhanced_table` on the same log, by 
 Instructions a reading of `left_seeds`, by the log's length; in brackets, how many times those of plain C; then those of plain Rust:
 
 {table_of_one(counts, "left_seeds", all_three)}
+
+Patterns that `left_seeds` looks at, a reading; in brackets, where they are more than one more than at half the length, the instructions that each of those more costs:
+
+{table_of_one(counts, "left_seeds", looked_at)}
 
 Instructions a reading of `ceiling`, by the log's length; in brackets, how many times those of plain C; then those of plain Rust:
 
@@ -188,12 +204,12 @@ def svg(counts):
 """
 
 
-def main(counts, times, stack, built, report):
+def main(counts, times, pairs, stack, built, report):
     counts, times, report = read_counts(Path(counts)), read_times(Path(times)), Path(report)
     plot = report.with_suffix(".svg")
     plot.write_text(svg(counts))
     old = report.read_text() if report.exists() else ""
-    report.write_text(between_markers(old, markdown(counts, times, stack_table(Path(stack)), built, plot.name)))
+    report.write_text(between_markers(old, markdown(counts, times, read_pairs(Path(pairs)), stack_table(Path(stack)), built, plot.name)))
 
 
 main(*sys.argv[1:])
