@@ -1,6 +1,6 @@
 /*
- * The kinds of log that are measured: the first COMMON with every call; the others, which the left seeds find hard, with the left covers
- * and left seeds alone.
+ * The kinds of log that are measured: the first COMMON with every call; the others, which the left seeds find hard, with the left covers,
+ * the left seeds and the enhanced table, in which the left covers are told.
  */
 #ifndef LOGS_H
 #define LOGS_H

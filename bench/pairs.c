@@ -9,8 +9,6 @@
 
 enum { LONGEST = 4096 };
 
-extern size_t pairs;
-
 int main(void)
 {
     static uint8_t x[LONGEST];

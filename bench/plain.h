@@ -22,6 +22,10 @@
                             uint16_t *best, uint16_t *count);                                               \
     uint32_t language##_ceiling(const uint8_t *x, size_t n);
 
+#ifdef PAIRS
+extern size_t pairs; /* how many patterns the search for left seeds looked at */
+#endif
+
 PLAIN(c)
 PLAIN(rust)
 

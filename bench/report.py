@@ -77,6 +77,9 @@ def markdown(counts, times, pairs, stack, built, plot):
     def in_enhanced_tables(call, kind, n):
         return f"{counts('proved', call, kind, n) / counts('proved', 'enhanced', kind, n):.2f}"
 
+    def in_tables_and_plain_c(call, kind, n):
+        return f"{in_enhanced_tables(call, kind, n)} ({counts('proved', call, kind, n) / counts('c', call, kind, n):.2f})"
+
     def all_three(call, kind, n):
         return f"{proved(call, kind, n)} {counts('rust', call, kind, n):.1f}"
 
@@ -104,9 +107,9 @@ Instructions of `best_pattern`, in those of `enhanced_table` on the same log, by
 
 {table_of_one(counts, "pattern", in_enhanced_tables)}
 
-Instructions of `left_covers`, in those of `enhanced_table` on the same log, by its length:
+Instructions of `left_covers`, in those of `enhanced_table` on the same log, by its length; in brackets, how many times those of plain C:
 
-{table_of_one(counts, "left_covers", in_enhanced_tables)}
+{table_of_one(counts, "left_covers", in_tables_and_plain_c)}
 
 Instructions a reading of `left_seeds`, by the log's length; in brackets, how many times those of plain C; then those of plain Rust:
 

@@ -43,7 +43,7 @@ extern "C" {
 #define FINDER_FILE 7    /* the file has no full header, or not the size that its header says */
 #define FINDER_SYMBOL 8  /* the file has a symbol above 20 */
 
-/* A call that only writes a table. */
+/* A call that only writes tables. */
 typedef struct {
     uint8_t number;
 } finder_written;

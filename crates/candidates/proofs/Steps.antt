@@ -13,7 +13,7 @@ use Rattle.words.specs.Words.{border, cover}
 use Rattle.words.specs.Tables.{borderRow, coverRow}
 use Rattle.words.specs.Refusals.{longest}
 use Rattle.words.proofs.Tests.{le-or-lt}
-use Rattle.words.proofs.Tops.{Top, Under, top-none, top-join}
+use Rattle.words.proofs.Tops.{Top, Under, wins-later, top-none, top-join}
 use Rattle.words.proofs.Tables.{Holds, Filled}
 use Rattle.words.proofs.Borders.{border-border, border-lt, border-most}
 use Rattle.words.proofs.Counts.{covered-le, covered-stays}
@@ -194,90 +194,68 @@ module _ {x : List ℕ} {i far : ℕ} (f : Far x i far) (some : 0 < i) where
     }
 
 module _ {x : List ℕ} {i q m : ℕ} {s : Seed} (w : Walk x i q m s) (nz : q ≡ 0 → ⊥) where
-  is-bare-now : Bare x i 0 q
-  is-bare-now = ⊎-elim (λ z. absurd (nz z)) (λ b. b) (w .next)
+  pub walk-bare : Bare x i 0 q
+  walk-bare = ⊎-elim (λ z. absurd (nz z)) (λ b. b) (w .next)
 
   pub walk-some : 0 < q
-  walk-some = is-bare-now .0
+  walk-some = walk-bare .0
 
   pub walk-ready : Ready x i q m
   walk-ready = w .ready
 
   module _ (u : i ≤ length x) {v : List ℕ} (hv : Holds bareRow x v) where
     pub in-next : q - 1 < length v
-    in-next = omega (arith, is-bare-now .2 .proper, hv .room)
+    in-next = omega (arith, walk-bare .2 .proper, hv .room)
 
     module _ (p : ℕ) (ep : p ≡ getD v (q - 1) 0) where
       is-next : p ≡ bare x (q - 1)
-      is-next = ep ∙ hv .rows (q - 1) (omega (arith, is-bare-now .2 .proper))
+      is-next = ep ∙ hv .rows (q - 1) (omega (arith, walk-bare .2 .proper))
 
       pub walk-falls : p < q
       walk-falls = omega (arith, is-next, bare-le x (q - 1), walk-some)
 
-  pub walk-bare : Bare x i 0 q
-  walk-bare = is-bare-now
+      module _ (n : ℕ) (en : n ≡ start eqb x i q) where
+        ready-next : Ready x i p n
+        ready-next = record {
+          border = rw en (start-border eqb x i q (omega (arith, walk-bare .2 .proper)));
+          most = λ j g b. rw en (start-most eqb x i q j (omega (arith, walk-falls)) b);
+          next = λ g. bare-same x n (q - 1) (omega (arith, is-next)) (omega (arith, en, start-lt eqb x i q walk-some)) ∙ sym is-next;
+        }
 
-  module _ (u : i ≤ length x) (n : ℕ) (en : n ≡ start eqb x i q) where
-    module _ {v : List ℕ} (hv : Holds bareRow x v) (p : ℕ) (ep : p ≡ getD v (q - 1) 0) where
-      next-is : p ≡ bare x (q - 1)
-      next-is = is-next u hv p ep
+        bare-next : (p ≡ 0) ⊎ Bare x i 0 p
+        bare-next = ⊎-elim
+            (λ (z : p ≡ 0). inl z)
+            (λ (g : 0 < p). inr (g, rw is-next (bare-bare x (q - 1)), repeats-shorter eqb x i q p (walk-bare .2) g (omega (arith, walk-falls))))
+            (eq-zero-or-pos p)
 
-      falls : p < q
-      falls = walk-falls u hv p ep
+        -- longer than the next candidate are q and what is longer than q
+        under : (j : ℕ) → Bare x i p j → Under (reached eqb x i) q (reached eqb x i q) j ⊎ Under (reached eqb x i) (s .len) (s .count) j
+        under j b = ⊎-elim
+            (λ (g : j ≤ q). ⊎-elim
+            (λ (z : j ≡ q). inl (rw z (omega arith), λ _. omega arith))
+            (λ (g : j < q). absurd (omega (arith, b .0, is-next, bare-most x (q - 1) j (omega arith) (b .1))))
+            (eq-or-lt-of-le g))
+            (λ (g : q < j). inr (w .top .most j (g, b .1, b .2), w .top .least j (g, b .1, b .2)))
+            (le-or-lt j q)
 
-      ready-next : Ready x i p n
-      ready-next = record {
-        border = rw en (start-border eqb x i q (omega (arith, is-bare-now .2 .proper)));
-        most = λ j g b. rw en (start-most eqb x i q j (omega (arith, falls)) b);
-        next = λ g. bare-same x n (q - 1) (omega (arith, next-is)) (omega (arith, en, start-lt eqb x i q walk-some)) ∙ sym next-is;
-      }
-
-      bare-next : (p ≡ 0) ⊎ Bare x i 0 p
-      bare-next = ⊎-elim
-          (λ (z : p ≡ 0). inl z)
-          (λ (g : 0 < p). inr (g, rw next-is (bare-bare x (q - 1)), repeats-shorter eqb x i q p (is-bare-now .2) g (omega (arith, falls))))
-          (eq-zero-or-pos p)
-
-      -- longer than the next candidate are q and what is longer than q
-      under : (j : ℕ) → Bare x i p j → Under (reached eqb x i) q (reached eqb x i q) j ⊎ Under (reached eqb x i) (s .len) (s .count) j
-      under j b = ⊎-elim
-          (λ (g : j ≤ q). ⊎-elim
-          (λ (z : j ≡ q). inl (rw z (omega arith), λ _. omega arith))
-          (λ (g : j < q). absurd (omega (arith, b .0, next-is, bare-most x (q - 1) j (omega arith) (b .1))))
-          (eq-or-lt-of-le g))
-          (λ (g : q < j). inr (w .top .most j (g, b .1, b .2), w .top .least j (g, b .1, b .2)))
-          (le-or-lt j q)
-
-      pub walk-next : {r : Seed} → Taken s q (reached eqb x i q) n r → Walk x i p n r
-      walk-next {r} y = ⊎-elim
-          (λ v. rw (v .1) (record {
-            ready = ready-next;
-            next = bare-next;
-            top = top-join (inr ((falls, is-bare-now .1, is-bare-now .2), omega arith)) under (wins (v .0));
-            starts = en;
-          }))
-          (λ v. rw (v .1) (record {
-            ready = ready-next;
-            next = bare-next;
-            top = top-join
-                (⊎-elim (λ z. inl z) (λ g. inr ((omega (arith, g .0 .0, falls), g .0 .1, g .0 .2), omega (arith, g .1))) (w .top .is))
-                (λ j b. ⊎-elim (λ a. inr a) (λ a. inl a) (under j b))
-                (inl (v .0));
-            starts = w .starts;
-          }))
-          y
-        where
-          wins : s .count ≤ reached eqb x i q → (s .count < reached eqb x i q) ⊎ ((s .count ≡ reached eqb x i q) × (q ≤ s .len))
-          wins g = ⊎-elim
-              (λ (z : s .count ≡ reached eqb x i q). inr (
-                z,
-                ⊎-elim
-                    (λ y. absurd (omega (arith, y .1, repeats-reached eqb x i q (is-bare-now .2))))
-                    (λ a. omega (arith, a .0 .0))
-                    (w .top .is),
-              ))
-              (λ (l : s .count < reached eqb x i q). inl l)
-              (eq-or-lt-of-le g)
+        pub walk-next : {r : Seed} → Taken s q (reached eqb x i q) n r → Walk x i p n r
+        walk-next {r} y = ⊎-elim
+            (λ v. rw (v .1) (record {
+              ready = ready-next;
+              next = bare-next;
+              top = top-join (inr ((walk-falls, walk-bare .1, walk-bare .2), omega arith)) under (wins-later q _ (w .top) (λ j b. omega (arith, b .0)) (repeats-reached eqb x i q (walk-bare .2)) (v .0));
+              starts = en;
+            }))
+            (λ v. rw (v .1) (record {
+              ready = ready-next;
+              next = bare-next;
+              top = top-join
+                  (⊎-elim (λ z. inl z) (λ g. inr ((omega (arith, g .0 .0, walk-falls), g .0 .1, g .0 .2), omega (arith, g .1))) (w .top .is))
+                  (λ j b. ⊎-elim (λ a. inr a) (λ a. inl a) (under j b))
+                  (inl (v .0));
+              starts = w .starts;
+            }))
+            y
 
 pub walk-done : {x : List ℕ} {i q m : ℕ} {s : Seed} → Walk x i q m s → q ≡ 0 → Sown x i s
 walk-done {x} {i} w z = record { seed = seed-all x i (rw z at (w .top)); starts = w .starts }

@@ -49,8 +49,8 @@ fn fall_at(x: &[u8], border: &[u16], fall: &[u16], r: usize, q: usize) -> usize
     words::wide(fall[b])
 }
 
-// Writes into the first rows of `bare` the lengths without a proper cover, and into those of `fall` where a start falls to when the pattern becomes one
-// that is no longer than it.
+// Row r of `bare` becomes the longest length up to r that has no proper cover, row r of `fall` the longest border of the first r readings that is shorter
+// than that: where a start falls to when the pattern becomes one that is no longer than it.
 pub fn rows(x: &[u8], border: &[u16], cover: &[u16], bare: &mut [u16], fall: &mut [u16])
     requires { ⌜ Room (now x) (now bare) × Room (now x) (now fall) × Holds borderRow (now x) (now border) × Holds coverRow (now x) (now cover) ⌝ }
     ensures bare { λ _. ⌜ now (bare .exit) ≡ written (bareRow (now (x .entry))) (length (now (x .entry))) (now (bare .entry)) ⌝ }

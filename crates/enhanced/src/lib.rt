@@ -17,7 +17,7 @@ pub struct Pick {
     pub used: u32,
 }
 
-// The positions covered by a pattern of length w that ends at i, where k were covered up to its last end e.
+// The positions covered once a pattern, or a start of it, of length w ends at i, where k were covered up to its last end e.
 pub fn grown(w: usize, i: usize, e: usize, k: usize) -> usize
     requires { ⌜ (e ≤ i) × (k + i ≤ 65536) ⌝ }
     ensures { λ r. ⌜ r ≡ k + min w (i - e) ⌝ }

@@ -54,11 +54,11 @@ enhanced-answers x b c {w} {s} {t} e z r h =
 -- left_covers and left_seeds: each row of both tables
 module _ (f g : Column) (x b c : List ℕ) {w : Written} {s t : List ℕ} (e : record { answer = w; tables = s ∷ t ∷ [] } ≡ A.pairOutcome f g x b c)
     (z : tableNo (length x) (length b ∷ length c ∷ []) ≡ 0) where
-  pub pair-first : (r : ℕ) → r < length x → getD s r 0 ≡ f x r
+  pair-first : (r : ℕ) → r < length x → getD s r 0 ≡ f x r
   unfolding A.pairOutcome A.rooms A.column
   pair-first = column-row f x b (ap (λ (l : List (List ℕ)). getD l 0 []) (tables-made _ _ _ _ e z))
 
-  pub pair-second : (r : ℕ) → r < length x → getD t r 0 ≡ g x r
+  pair-second : (r : ℕ) → r < length x → getD t r 0 ≡ g x r
   unfolding A.pairOutcome A.rooms A.column
   pair-second = column-row g x c (ap (λ (l : List (List ℕ)). getD l 1 []) (tables-made _ _ _ _ e z))
 

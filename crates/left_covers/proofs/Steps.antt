@@ -8,6 +8,7 @@ use native.Mathlib.Omega.{arith}
 use lib.Dec.{eqb}
 use lib.ListN.{length, getD, set}
 use lib.Seq.{set-getD}
+use Rattle.words.specs.Words.{covered}
 use Rattle.words.specs.Tables.{Column, bestRow, countRow, written}
 use Rattle.words.specs.Refusals.{longest}
 use Rattle.words.proofs.Tables.{Room, Holds, Rows, rows-more, length-written, written-stays, written-again}
@@ -18,14 +19,15 @@ use Rattle.repeats.specs.declared.Found.{Found}
 use Rattle.repeats.specs.Better.{Won, Better}
 use Rattle.repeats.proofs.Choices.{first-wins, second-wins}
 use Rattle.repeats.specs.Repeats.{leftCoverRow, leftCountRow}
-use Rattle.repeats.proofs.LeftCovers.{LeftCover, left-left, left-one, left-none, left-stays, left-moves}
+use Rattle.repeats.proofs.Repeating.{repeats-zero}
+use Rattle.repeats.proofs.LeftCovers.{LeftCover, left-left, left-one, left-stays, left-moves}
 
 -- the left cover of the first r readings
 pub record Left (x : List ℕ) (r : ℕ) (f : Found) : Type 0 where
   pub cover : LeftCover eqb x r (f .len) (f .count)
 
 pub left-start : (x : List ℕ) → Left x 0 (record { len = 0; count = 0 })
-left-start x = record { cover = left-none eqb x eqb-refl }
+left-start x = record { cover = repeats-zero eqb x 0 (covered eqb x 0) (omega arith) }
 
 -- a row that is not written yet is still that of the enhanced table
 pub row-of : (f g : Column) {x t₀ t : List ℕ} {r : ℕ} → Holds f x t₀ → Rows g x t₀ t r → r < length x → getD t r 0 ≡ f x r

@@ -25,7 +25,7 @@ use Rattle.left_seeds.specs.Works.{Work}
 
 module _ {x v : List ℕ} {j : ℕ} (k : Filled heaviestRow x v j) {c t f : List ℕ} (l : Columns x c t f) {w : ℕ} (e : w ≡ heaviestRow x j) where
   pub chain-fits : Fits w16 w
-  chain-fits = omega (arith, e, heaviest-lt x (j + 1) (omega arith), k .inside, l .most)
+  chain-fits = omega (arith, e, heaviest-lt x (j + 1) (omega arith), k .inside, l .bordered .most)
 
   pub chain-in : j < length v
   chain-in = omega (arith, k .inside, k .room)
@@ -65,4 +65,4 @@ room-holds f {x} {s} h e = written-holds f x s (h .room) e
 
 pub columns-made : {x b b₀ t t₀ f f₀ : List ℕ} → Room x b₀ → Room x t₀ → Room x f₀
     → b ≡ written (borderRow x) (length x) b₀ → t ≡ written (bareRow x) (length x) t₀ → f ≡ written (fallRow x) (length x) f₀ → Columns x b t f
-columns-made rb rt rf eb et ef = record { most = rb .most; borders = room-holds borderRow rb eb; bares = room-holds bareRow rt et; falls = room-holds fallRow rf ef }
+columns-made rb rt rf eb et ef = record { bordered = record { most = rb .most; borders = room-holds borderRow rb eb }; bares = room-holds bareRow rt et; falls = room-holds fallRow rf ef }

@@ -9,14 +9,14 @@ use native.Mathlib.Numerals.{add-one}
 use native.Mathlib.Omega.{arith}
 use Rattle.words.specs.Words.{covered, best, count}
 use Rattle.words.proofs.Search.{some-howMany}
-use Rattle.words.proofs.Tops.{Top, Wins, Under, wins-or, top-none, top-one, top-join}
+use Rattle.words.proofs.Tops.{Top, Wins, Under, wins-or, top-one, top-join}
 use Rattle.words.proofs.Occurrences.{Reflexive}
 use Rattle.words.proofs.Borders.{Border}
 use Rattle.words.proofs.Covers.{Covers, inside-iff, covers-border}
 use Rattle.words.proofs.Counts.{covered-le, covered-all, all-covered, covered-wider}
 use Rattle.words.proofs.Bests.{Best, Nonempty, best-best, best-zero, count-le}
 use Rattle.repeats.specs.Repeats.{leftCover, leftCount}
-use Rattle.repeats.proofs.Repeating.{Repeats, Before, repeats-top, repeats-none, repeats-wider, repeats-border, repeats-step}
+use Rattle.repeats.proofs.Repeating.{Repeats, Before, repeats-top, repeats-zero, repeats-wider, repeats-border, repeats-step}
 
 -- q is the shortest of the prefixes of x[1..i] that repeat and cover the most, k positions; both are 0 where none repeats
 abbrev pub LeftCover : (ℕ → ℕ → Bool) → List ℕ → ℕ → ℕ → ℕ → Type 0
@@ -62,9 +62,6 @@ module _ (ag : ℕ → ℕ → Bool) (x : List ℕ) (self : Reflexive ag) where
         (⊎-elim (λ z. inl z) (λ v. inr (repeats-border ag x self (i + 1) c (v .0 .0) (v .0 .1), omega (arith, v .1))) (t .is))
         (λ q r. ⊎-elim (λ u. inr u) (λ u. inl u) (under q r))
 
-  pub left-none : LeftCover ag x 0 0 0
-  left-none = top-none (λ q t. repeats-none ag x 0 q (omega arith) t)
-
 -- ---- the greatest Count so far
 
 -- row j, up to i, of the enhanced table has these two numbers
@@ -93,7 +90,7 @@ module _ (ag : ℕ → ℕ → Bool) (x : List ℕ) (self : Reflexive ag) where
 
   left-at : (n : ℕ) → AtRow ag x (suc n) (leftCover ag x (suc n)) (leftCount ag x (suc n))
   left-at zero =
-      let z = left-one ag x 1 (top-none (λ q t. repeats-none ag x 1 q (omega arith) t)) (left-left ag x 1) in
+      let z = left-one ag x 1 (repeats-zero ag x 1 (covered ag x 1) (omega arith)) (left-left ag x 1) in
       let b = best-zero ag x 1 (λ m h. omega (arith, h .0, h .1 .below)) in
       record { row = 1; some = omega arith; within = omega arith; best = b .0 ∙ z .0; count = b .1 ∙ z .1 }
   left-at (suc n) = rw add-one at (left-step (suc n) (left-at n))

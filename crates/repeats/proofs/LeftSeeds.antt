@@ -4,27 +4,24 @@ use mathlib.Core.Path.{_≡_}
 use mathlib.Core.List.{List}
 use mathlib.Core.Logic.{_⊎_, inl, inr, ⊎-elim}
 use Prim.Native.Nat.{ℕ, _+_, _-_, _≤_, _<_}
-use native.Mathlib.Nat.{le-trans}
 use native.Mathlib.Omega.{arith}
 use lib.Dec.{eqb}
 use lib.ListN.{getD}
-use Rattle.words.specs.Words.{border, cover}
-use Rattle.words.proofs.Tops.{Top, Wins, Under, top-none, top-join}
+use Rattle.words.specs.Words.{border, cover, covered}
+use Rattle.words.proofs.Tops.{Top, Wins, Under, Stand, top-join, top-all, top-within}
 use Rattle.words.proofs.Occurrences.{Occurs, Reflexive}
 use Rattle.words.proofs.Borders.{Border}
+use Rattle.words.proofs.Covers.{Covers}
 use Rattle.words.proofs.Bests.{Best}
 use Rattle.words.proofs.Counts.{covered-through}
 use Rattle.words.proofs.Lossless.{root}
 use Rattle.repeats.specs.Repeats.{reached, leftCount, seedCount, leftCover}
-use Rattle.repeats.proofs.Repeating.{Repeats, Before, repeats-none, repeats-shorter, repeats-wider, repeats-border, repeats-step}
+use Rattle.repeats.proofs.Repeating.{Repeats, Before, repeats-shorter, repeats-wider, repeats-border, repeats-step}
 use Rattle.repeats.proofs.LeftCovers.{LeftCover, left-left}
 use Rattle.repeats.proofs.Seeds.{LeftSeed, seed-seed, reached-covered, reached-border, reached-step, reached-through}
 use Rattle.repeats.proofs.Starts.{start, start-whole, start-le, reached-count, reached-bound, reached-on}
 
 module _ (ag : ℕ → ℕ → Bool) (x : List ℕ) where
-  pub seed-none : LeftSeed ag x 0 0 0
-  seed-none = top-none (λ q t. repeats-none ag x 0 q (omega arith) t)
-
   -- a left seed covers at least as many positions as the left cover
   pub seed-most : (i : ℕ) → leftCount ag x i ≤ seedCount ag x i
   seed-most i = ⊎-elim
@@ -77,26 +74,24 @@ abbrev pub Bare : List ℕ → ℕ → ℕ → ℕ → Type 0
 Bare x i w q = (w < q) × (cover eqb x q ≡ 0) × Repeats eqb x i q
 
 module _ (x : List ℕ) (i : ℕ) where
-  pub seed-all : {b k : ℕ} → Top (Bare x i 0) (reached eqb x i) b k → LeftSeed eqb x i b k
-  seed-all {b} {k} s = record {
-    most = λ q t. let r = root x q (t .some) in
-        le-trans (reached-through x (r .len) q i (r .covers)) (s .most (r .len) (r .covers .some, r .bare, repeats-shorter eqb x i q (r .len) t (r .covers .some) (r .covers .most)));
-    least = λ q t e.
+  -- by any number that is no less for a cover, the shortest cover of a pattern stands for it
+  module _ (g : ℕ → ℕ) (more : (r q : ℕ) → Covers eqb x q r → g q ≤ g r) where
+    stands : (q : ℕ) → Repeats eqb x i q → Stand (Bare x i 0) g q
+    stands q t =
         let r = root x q (t .some) in
-        let h : Bare x i 0 (r .len) = (r .covers .some, r .bare, repeats-shorter eqb x i q (r .len) t (r .covers .some) (r .covers .most)) in
-        let m = s .most (r .len) h in
-        le-trans (s .least (r .len) h (omega (arith, reached-through x (r .len) q i (r .covers)))) (r .covers .most);
-    is = ⊎-elim (λ z. inl z) (λ v. inr (v .0 .2, v .1)) (s .is);
-  }
+        record {
+          at = r .len;
+          has = (r .covers .some, r .bare, repeats-shorter eqb x i q (r .len) t (r .covers .some) (r .covers .most));
+          less = r .covers .most;
+          most = more (r .len) q (r .covers);
+        }
+
+  pub seed-all : {b k : ℕ} → Top (Bare x i 0) (reached eqb x i) b k → LeftSeed eqb x i b k
+  seed-all = top-all (stands (reached eqb x i) (λ r q c. reached-through x r q i c)) (λ q h. h .2)
 
   -- and the left cover has none
   pub left-bare : {b k : ℕ} → LeftCover eqb x i b k → 0 < b → cover eqb x b ≡ 0
-  left-bare {b} {k} s h = ⊎-elim
+  left-bare s h = ⊎-elim
       (λ z. absurd (omega (arith, z .0)))
-      (λ v.
-      let r = root x b h in
-      let t = repeats-shorter eqb x i b (r .len) (v .0) (r .covers .some) (r .covers .most) in
-      let l = s .least (r .len) t (omega (arith, v .1, s .most (r .len) t, covered-through x (r .len) b i (r .covers))) in
-      let e : r .len ≡ b = omega (arith, r .covers .most) in
-      rw e at (r .bare))
-      (s .is)
+      (λ v. v .0 .1)
+      (top-within (stands (covered eqb x i) (λ r q c. covered-through x r q i c)) (λ q u. u .2) s .is)

@@ -1,6 +1,6 @@
 -- What left covers and left seeds mean, in the words that ask for them. Positions are numbered from 1, and a part of the log is a list, as in words/proofs/Meaning.
 -- Assumes nothing.
-use mathlib.Core.Bool.{true, _||_}
+use mathlib.Core.Bool.{true}
 use mathlib.Core.Path.{_≡_}
 use mathlib.Core.List.{List}
 use mathlib.Core.Logic.{_⊎_, inl, inr, ⊎-elim, _↔_}
@@ -8,14 +8,14 @@ use Prim.Native.Nat.{ℕ, _+_, _-_, _≤_, _<_}
 use native.Mathlib.Omega.{arith}
 use lib.Dec.{eqb}
 use lib.ListN.{length}
-use Rattle.words.specs.Words.{inside, covered}
+use Rattle.words.specs.Words.{covered}
 use Rattle.words.proofs.Tops.{Top, top-same}
 use Rattle.words.proofs.Occurrences.{Occurs}
 use Rattle.words.proofs.Meaning.{Suffix, OccursAt, LiesInside, suffix-iff, occursAt-iff, lies-iff}
-use Rattle.repeats.specs.Repeats.{repeats, leftCover, leftCount, begun, reached, leftSeed, seedCount}
+use Rattle.repeats.specs.Repeats.{repeats, leftCover, leftCount, reached, leftSeed, seedCount}
 use Rattle.repeats.proofs.Repeating.{Repeats, repeats-iff}
 use Rattle.repeats.proofs.LeftCovers.{left-left, left-one}
-use Rattle.repeats.proofs.Seeds.{Begun, reached-iff, seed-seed, seed-one}
+use Rattle.repeats.proofs.Seeds.{Begun, reaches, reached-iff, seed-seed, seed-one}
 
 -- x[1..q] is a proper nonempty prefix of x[1..i] that occurs at least twice in it
 pub record OccursTwice (x : List ℕ) (i q : ℕ) : Type 0 where
@@ -32,7 +32,7 @@ pub record OccursTwice (x : List ℕ) (i q : ℕ) : Type 0 where
 pub record LiesInStart (x : List ℕ) (i q p : ℕ) : Type 0 where
   pub len : ℕ
   pub short : len < q
-  pub below : len < i
+  pub below : len < i  -- which follows where the pattern is a proper prefix
   pub suffix : Suffix x i len
   pub from : i < p + len
 
@@ -98,7 +98,7 @@ module _ (x : List ℕ) (i : ℕ) (within : i ≤ length x) where
   )
 
   -- what `reached` counts
-  pub reached-meaning : (q p : ℕ) → p < i → (inside eqb x i q p || begun eqb x i q p ≡ true) ↔ (LiesInside x i q (p + 1) ⊎ LiesInStart x i q (p + 1))
+  pub reached-meaning : (q p : ℕ) → p < i → (reaches eqb x i q p ≡ true) ↔ (LiesInside x i q (p + 1) ⊎ LiesInStart x i q (p + 1))
   reached-meaning q p h = (
     λ e. ⊎-elim (λ u. inl (lies-iff x i within q p h .1 u)) (λ u. inr (start-iff q p h .1 u)) (reached-iff eqb x i q p .0 e),
     λ t. reached-iff eqb x i q p .1 (⊎-elim (λ u. inl (lies-iff x i within q p h .0 u)) (λ u. inr (start-iff q p h .0 u)) t),

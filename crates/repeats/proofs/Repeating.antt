@@ -12,7 +12,7 @@ use Rattle.words.specs.Search.{peak}
 use Rattle.words.specs.Words.{occurs, isBorder, covered}
 use Rattle.words.proofs.Tests.{and-left, and-right, and-both, and3, by-test, cond-case}
 use Rattle.words.proofs.Search.{two-howMany, howMany-two}
-use Rattle.words.proofs.Tops.{Top, top-peak}
+use Rattle.words.proofs.Tops.{Top, top-none, top-peak}
 use Rattle.words.proofs.Occurrences.{Occurs, Reflexive, occurs-iff, occurs-same, occurs-shorter, occurs-self}
 use Rattle.words.proofs.Borders.{Border, isBorder-iff}
 use Rattle.words.proofs.Counts.{covered-stays}
@@ -92,6 +92,10 @@ module _ (ag : ℕ → ℕ → Bool) (x : List ℕ) where
   -- a prefix of one reading has no proper nonempty one
   pub repeats-none : (i q : ℕ) → i ≤ 1 → Repeats ag x i q → ⊥
   repeats-none i q h t = omega (arith, t .some, t .proper)
+
+  -- so both numbers are 0 there, whatever a pattern accounts for
+  pub repeats-zero : (i : ℕ) (g : ℕ → ℕ) → i ≤ 1 → Top (Repeats ag x i) g 0 0
+  repeats-zero i g h = top-none (λ q t. repeats-none i q h t)
 
   -- where each reading agrees with itself, a nonempty border repeats: it occurs at the front, and at the end
   pub repeats-border : Reflexive ag → (i q : ℕ) → 0 < q → Border ag x i q → Repeats ag x i q

@@ -1,6 +1,5 @@
 -- The left seed: what a pattern reaches by its occurrences, and by a start of it that ends the prefix. Under any rule: one reading more reaches at most one
--- position more, and what is reached beyond the last occurrence is the longest such start. Where readings agree by being equal, the shortest cover of a
--- pattern reaches all that the pattern reaches. Assumes nothing.
+-- position more. Where readings agree by being equal, a cover of a pattern reaches all that the pattern reaches. Assumes nothing.
 use mathlib.Core.Bool.{Bool, true, _&&_, _||_}
 use mathlib.Core.Path.{_≡_}
 use mathlib.Core.List.{List}
@@ -10,7 +9,6 @@ use native.Mathlib.Nat.{eq-or-lt-of-le}
 use native.Mathlib.Omega.{arith}
 use lib.Dec.{eqb, leb}
 use borrow.Author.Tests.{leb-true, le-leb}
-use Rattle.words.specs.Search.{howMany}
 use Rattle.words.specs.Words.{isBorder, inside, covered}
 use Rattle.words.proofs.Tests.{and-left, and-right, and-both, or-cases, or-left, or-right, by-test, both-ways, le-or-lt}
 use Rattle.words.proofs.Search.{any-some, some-any, howMany-le, howMany-hit, howMany-miss, howMany-same, howMany-mono}
@@ -37,7 +35,8 @@ abbrev pub LeftSeed : (ℕ → ℕ → Bool) → List ℕ → ℕ → ℕ → �
 LeftSeed ag x i = Top (Repeats ag x i) (reached ag x i)
 
 module _ (ag : ℕ → ℕ → Bool) (x : List ℕ) where
-  abbrev reaches : ℕ → ℕ → ℕ → Bool
+  -- what `reached` counts
+  abbrev pub reaches : ℕ → ℕ → ℕ → Bool
   reaches i q p = inside ag x i q p || begun ag x i q p
 
   pub begun-iff : (i q p : ℕ) → (begun ag x i q p ≡ true) ↔ Begun ag x i q p
@@ -59,7 +58,7 @@ module _ (ag : ℕ → ℕ → Bool) (x : List ℕ) where
       from : Begun ag x i q p → begun ag x i q p ≡ true
       from b = some-any test q (b .len) (b .short) (and-both (leb (i - b .len) p) (isBorder ag x i (b .len)) (le-leb _ _ (b .from)) (isBorder-iff ag x i (b .len) .1 (b .border)))
 
-  pub reached-iff : (i q p : ℕ) → (inside ag x i q p || begun ag x i q p ≡ true) ↔ Reached ag x i q p
+  pub reached-iff : (i q p : ℕ) → (reaches i q p ≡ true) ↔ Reached ag x i q p
   reached-iff i q p = (
     λ e. ⊎-elim (λ h. inl (inside-iff ag x i q p .0 h)) (λ h. inr (begun-iff i q p .0 h)) (or-cases (inside ag x i q p) (begun ag x i q p) e),
     λ r. ⊎-elim
@@ -86,11 +85,6 @@ module _ (ag : ℕ → ℕ → Bool) (x : List ℕ) where
 
     pub seed-one : {b k c n : ℕ} → LeftSeed ag x i b k → LeftSeed ag x i c n → (b ≡ c) × (k ≡ n)
     seed-one = top-one (repeats-reached i)
-
-  -- two patterns, each at a prefix of the same length: where the one reaches, the other does
-  reached-mono : (i q r : ℕ) (j : ℕ) → ((p : ℕ) → p < i → Reached ag x i q p → Reached ag x j r p) → reached ag x i q ≤ howMany (reaches j r) i
-  unfolding reached
-  reached-mono i q r j h = howMany-mono (reaches i q) (reaches j r) i (λ p l e. reached-iff j r p .1 (h p l (reached-iff i q p .0 e)))
 
   -- ---- what ends at i reaches no more than it covers
 

@@ -1,6 +1,6 @@
 -- The longest start of a pattern that ends a prefix and is not the pattern itself: the longest border shorter than the pattern. Under any rule it says what
 -- the pattern reaches beyond its last occurrence, and whether one reading more is reached too. Assumes nothing.
-use mathlib.Core.Bool.{Bool, true, false, _||_}
+use mathlib.Core.Bool.{Bool, true, false}
 use mathlib.Core.Path.{_≡_, refl, sym, ap, _∙_}
 use mathlib.Core.List.{List}
 use mathlib.Core.Logic.{_⊎_, inl, inr, ⊎-elim}
@@ -18,8 +18,8 @@ use Rattle.words.proofs.Occurrences.{Occurs, occurs-same}
 use Rattle.words.proofs.Borders.{Border, isBorder-iff, border-empty, border-border, border-most, border-grow, border-shrink, border-trans, border-inner}
 use Rattle.words.proofs.Covers.{inside-iff, inside-wider}
 use Rattle.words.proofs.Counts.{covered-stays}
-use Rattle.repeats.specs.Repeats.{begun, reached}
-use Rattle.repeats.proofs.Seeds.{Reached, reached-iff}
+use Rattle.repeats.specs.Repeats.{reached}
+use Rattle.repeats.proofs.Seeds.{Reached, reaches, reached-iff}
 
 module _ (ag : ℕ → ℕ → Bool) (x : List ℕ) where
   unfoldable pub start : ℕ → ℕ → ℕ
@@ -52,10 +52,6 @@ module _ (ag : ℕ → ℕ → Bool) (x : List ℕ) where
   pub start-le : (i q : ℕ) → 0 < i → start i q ≤ border ag x i
   start-le i q h = border-most ag x i (start i q) (start-border i q h)
 
-  -- of a shorter pattern: the same, if that is still shorter than it
-  pub start-keeps : (i q r : ℕ) → 0 < i → r ≤ q → start i q < r → start i r ≡ start i q
-  start-keeps i q r h l g = start-is i r (start i q) g (start-border i q h) (λ k u b. start-most i q k (omega arith) b)
-
   -- ---- what a pattern reaches: what it covers, and from its last end on the start
 
   module _ (i q e : ℕ) (some : 0 < q) (from : q ≤ e) (within : e ≤ i) (o : Occurs ag x q (e - q)) (last : (s : ℕ) → s + q ≤ i → Occurs ag x q s → s + q ≤ e) where
@@ -63,7 +59,7 @@ module _ (ag : ℕ → ℕ → Bool) (x : List ℕ) where
     m = start i q
 
     abbrev u : ℕ → Bool
-    u p = inside ag x i q p || begun ag x i q p
+    u = reaches ag x i q
 
     -- up to the last end a start adds nothing
     low : (p : ℕ) → p < e → u p ≡ inside ag x e q p
@@ -94,7 +90,7 @@ module _ (ag : ℕ → ℕ → Bool) (x : List ℕ) where
   pub reached-bound : (i q : ℕ) → 0 < i → reached ag x i q ≤ covered ag x i q + start i q
   unfolding reached covered
   reached-bound i q some =
-      let u : ℕ → Bool = λ p. inside ag x i q p || begun ag x i q p in
+      let u : ℕ → Bool = reaches ag x i q in
       let n : i - start i q + start i q ≡ i = omega (arith, start-border i q some .below) in
       let low = howMany-mono u (inside ag x i q) (i - start i q) (λ p l t. ⊎-elim
       (λ v. inside-iff ag x i q p .1 v)
@@ -126,8 +122,8 @@ module _ (ag : ℕ → ℕ → Bool) (x : List ℕ) where
     pub reached-on : reached ag x i q + 1 ≤ reached ag x (i + 1) q
     unfolding reached
     reached-on =
-        let u : ℕ → Bool = λ p. inside ag x (i + 1) q p || begun ag x (i + 1) q p in
-        let old = howMany-mono (λ p. inside ag x i q p || begun ag x i q p) u i (λ p l e. reached-iff ag x (i + 1) q p .1 (on p l (reached-iff ag x i q p .0 e))) in
+        let u : ℕ → Bool = reaches ag x (i + 1) q in
+        let old = howMany-mono (reaches ag x i q) u i (λ p l e. reached-iff ag x (i + 1) q p .1 (on p l (reached-iff ag x i q p .0 e))) in
         let new = howMany-hit u i (reached-iff ag x (i + 1) q i .1 (end i (omega arith) (omega arith))) in
         omega (arith, old, new)
 

@@ -20,7 +20,7 @@ pub fn wins(a: Found, b: Found) -> bool
     a.len <= b.len
 }
 
-// The one that accounts for more; of equals the shorter.
+// The one that accounts for more; of equals the shorter. b is asked first: where it is the newer one, one test mostly decides.
 pub fn better(a: Found, b: Found) -> Found
     ensures { λ r. ⌜ Better a b r ⌝ }
 {

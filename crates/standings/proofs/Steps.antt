@@ -22,15 +22,15 @@ use Rattle.enhanced.specs.Tallies.{Tally, Tallies, Judgement}
 use Rattle.repeats.specs.declared.Found.{Found}
 use Rattle.repeats.specs.Better.{Better}
 use Rattle.repeats.specs.Repeats.{reached}
-use Rattle.repeats.proofs.Repeating.{Repeats, repeats-none, repeats-wider, repeats-border, repeats-step}
-use Rattle.repeats.proofs.LeftCovers.{LeftCover, left-none, left-stays, left-moves}
+use Rattle.repeats.proofs.Repeating.{Repeats, repeats-none, repeats-zero, repeats-wider, repeats-border, repeats-step}
+use Rattle.repeats.proofs.LeftCovers.{LeftCover, left-stays, left-moves}
 use Rattle.repeats.proofs.Seeds.{LeftSeed, reached-le}
 use Rattle.repeats.proofs.Starts.{start, start-none, start-lt, start-whole, start-end, start-grows, start-ends}
-use Rattle.repeats.proofs.LeftSeeds.{seed-none, seed-rests, seed-moves, seed-goes-on, left-bare}
+use Rattle.repeats.proofs.LeftSeeds.{seed-rests, seed-moves, seed-goes-on, left-bare}
 use Rattle.candidates.specs.declared.Seed.{Seed}
 use Rattle.candidates.specs.Candidates.{Sown, Far}
 use Rattle.standings.specs.declared.Standing.{Standing}
-use Rattle.standings.specs.Standings.{Columns, Goes, Ends, Ended, Turns, Stands, After, noStanding}
+use Rattle.standings.specs.Standings.{Bordered, Columns, Goes, Ends, Ended, Turns, Stands, After, noStanding}
 
 -- ---- `start_after`
 
@@ -47,7 +47,7 @@ module _ (b : List ℕ) (s : Seed) (len : ℕ) where
 
 -- ---- a row's border
 
-module _ {x b t f : List ℕ} (h : Columns x b t f) where
+module _ {x b : List ℕ} (h : Bordered x b) where
   pub border-at : (q : ℕ) → 0 < q → q ≤ length x → getD b (q - 1) 0 ≡ border eqb x q
   border-at q s l = h .borders .rows (q - 1) (omega arith) ∙ ap (border eqb x) (omega arith)
 
@@ -57,10 +57,10 @@ module _ {x : List ℕ} {j : ℕ} {s : Seed} {b : Found} (g : Goes x j s b) wher
   seed-is : Repeats eqb x j (s .len) × (s .count ≡ reached eqb x j (s .len))
   seed-is = ⊎-elim (λ z. absurd (g .some (z .0))) (λ v. v) (g .sown .seed .is)
 
-  pub start-small : {c t f : List ℕ} → Columns x c t f → s .start < 65536
+  pub start-small : {c : List ℕ} → Bordered x c → s .start < 65536
   start-small h = omega (arith, g .sown .starts, start-lt eqb x j (s .len) (seed-is .0 .some), seed-is .0 .proper, g .ended .inside, h .most)
 
-  pub more-fits : {c t f : List ℕ} → Columns x c t f → Fits w64 (s .count + 1)
+  pub more-fits : {c : List ℕ} → Bordered x c → Fits w64 (s .count + 1)
   more-fits h = omega (arith, seed-is .1, reached-le eqb x j (s .len), g .ended .inside, h .most)
 
   some-readings : 0 < j
@@ -85,7 +85,7 @@ module _ {x : List ℕ} {j : ℕ} {s : Seed} {b : Found} (g : Goes x j s b) wher
     pub on-some : 0 < r .len
     on-some = on-repeats .some
 
-    pub on-within : {c t f : List ℕ} → Columns x c t f → r .len ≤ length c
+    pub on-within : {c : List ℕ} → Bordered x c → r .len ≤ length c
     on-within h = omega (arith, on-repeats .proper, g .ended .inside, h .borders .room)
 
     -- a pattern that does not go on with a longer start ends there
@@ -99,7 +99,7 @@ module _ {x : List ℕ} {j : ℕ} {s : Seed} {b : Found} (g : Goes x j s b) wher
         (g .ended .best .is)))
         o
 
-    pub on-sown : {c t f : List ℕ} → Columns x c t f → (n : ℕ) → After c s (r .len) n → Sown x (j + 1) (record { len = r .len; count = r .count; start = n })
+    pub on-sown : {c : List ℕ} → Bordered x c → (n : ℕ) → After c s (r .len) n → Sown x (j + 1) (record { len = r .len; count = r .count; start = n })
     on-sown h n a = record {
       seed = on-seed;
       starts = ⊎-elim
@@ -122,7 +122,7 @@ module _ {x : List ℕ} {j : ℕ} {s : Seed} {b : Found} (w : Sown x j s) (e : E
   pub goes : (s .len ≡ 0 → ⊥) → getD x (s .start) 0 ≡ getD x j 0 → Goes x j s b
   goes nz f = record { sown = w; some = nz; follows = f; ended = e }
 
-  pub count-fits : {c t f : List ℕ} → Columns x c t f → Fits w64 (s .count + 1)
+  pub count-fits : {c : List ℕ} → Bordered x c → Fits w64 (s .count + 1)
   count-fits h = ⊎-elim (λ z. omega (arith, z .1)) (λ v. omega (arith, v .1, reached-le eqb x j (s .len), e .inside, h .most)) (w .seed .is)
 
   pub ends : s .count + 1 < b .count → Ends x j s b
@@ -137,7 +137,7 @@ module _ {x : List ℕ} {j : ℕ} {s : Seed} {b : Found} (w : Ends x j s b) wher
   pub ends-some : 0 < b .len
   ends-some = ends-here .0
 
-  module _ {c t f : List ℕ} (h : Columns x c t f) where
+  module _ {c : List ℕ} (h : Bordered x c) where
     pub ends-within : b .len - 1 < length c
     ends-within = omega (arith, ends-here .1 .below, w .ended .inside, h .borders .room)
 
@@ -151,18 +151,18 @@ module _ {x : List ℕ} {j : ℕ} {s : Seed} {b : Found} (w : Ends x j s b) wher
 
 module _ {x c t f : List ℕ} (h : Columns x c t f) {j : ℕ} {left : Found} {far : ℕ} (w : Turns x j left far) where
   pub border-in : j < length c
-  border-in = omega (arith, w .inside, h .borders .room)
+  border-in = omega (arith, w .inside, h .bordered .borders .room)
 
   module _ (b : ℕ) (eb : b ≡ getD c j 0) where
     pub is-border : b ≡ border eqb x (j + 1)
-    is-border = eb ∙ h .borders .rows j (w .inside)
+    is-border = eb ∙ h .bordered .borders .rows j (w .inside)
 
     module _ (lt : b < left .len) {l k : List ℕ} (y : Tallies x l k (j + 1)) where
       covers-is : Repeats eqb x (j + 1) (left .len) × (left .count ≡ covered eqb x (j + 1) (left .len))
       covers-is = ⊎-elim (λ z. absurd (omega (arith, z .0))) (λ v. v) (w .cover .is)
 
       pub left-fits : Fits w64 (left .count + b)
-      left-fits = omega (arith, covers-is .1, covered-le eqb x (j + 1) (left .len), is-border, border-lt eqb x (j + 1) (omega arith), w .inside, h .most)
+      left-fits = omega (arith, covers-is .1, covered-le eqb x (j + 1) (left .len), is-border, border-lt eqb x (j + 1) (omega arith), w .inside, h .bordered .most)
 
       pub rests-in : left .len - 1 < length l
       rests-in = omega (arith, covers-is .0 .proper, w .inside, y .lasts)
@@ -172,7 +172,7 @@ module _ {x c t f : List ℕ} (h : Columns x c t f) {j : ℕ} {left : Found} {fa
 
       module _ (e : ℕ) (ee : e ≡ getD l (left .len - 1) 0) where
         pub rests-fits : Fits w64 (e + b)
-        rests-fits = omega (arith, ee, tally .within, is-border, border-lt eqb x (j + 1) (omega arith), w .inside, h .most)
+        rests-fits = omega (arith, ee, tally .within, is-border, border-lt eqb x (j + 1) (omega arith), w .inside, h .bordered .most)
 
         pub rests-sown : e + b ≤ j + 1 → Sown x (j + 1) (record { len = left .len; count = left .count + b; start = b })
         rests-sown u = record {
@@ -183,7 +183,7 @@ module _ {x c t f : List ℕ} (h : Columns x c t f) {j : ℕ} {left : Found} {fa
 -- ---- `stand`
 
 pub stand-in : {x c t f : List ℕ} {j : ℕ} → Columns x c t f → j < length x → j < length c
-stand-in h l = omega (arith, h .borders .room)
+stand-in h l = omega (arith, h .bordered .borders .room)
 
 pub ended : {x : List ℕ} {j : ℕ} {p : Pick} → j < length x → Judgement x j p → Ended x j (record { len = p .best; count = p .count })
 ended {x} {j} h g = record { inside = h; best = rw (g .best, g .count) (best-best eqb x (j + 1)) }
@@ -213,7 +213,7 @@ module _ {x : List ℕ} {j : ℕ} {s : Standing} {b : Found} (w : Stands x j s) 
   turns h o m far d u = record {
     inside = e .inside;
     cover = next-left o;
-    longest = rw u (next-far m (d ∙ h .borders .rows j (e .inside)));
+    longest = rw u (next-far m (d ∙ h .bordered .borders .rows j (e .inside)));
   }
 
 pub stands-next : {x : List ℕ} {j : ℕ} {seed : Seed} {left : Found} {far : ℕ} → Sown x (j + 1) seed → Turns x j left far → Stands x (j + 1) (record { seed = seed; left = left; far = far })
@@ -224,7 +224,7 @@ stands-next s t = record { seed = s; left = t .cover; far = t .longest }
 pub stands-none : (x : List ℕ) {s : Standing} → s ≡ noStanding → Stands x 0 s
 unfolding noStanding
 stands-none x e = rw e (record {
-  seed = record { seed = seed-none eqb x; starts = sym (start-none eqb x 0) };
-  left = left-none eqb x eqb-refl;
+  seed = record { seed = repeats-zero eqb x 0 (reached eqb x 0) (omega arith); starts = sym (start-none eqb x 0) };
+  left = repeats-zero eqb x 0 (covered eqb x 0) (omega arith);
   far = record { is = inl refl; most = λ q r. absurd (repeats-none eqb x 0 q (omega arith) r) };
 })

@@ -15,10 +15,14 @@ use Rattle.candidates.specs.declared.Seed.{Seed}
 use Rattle.candidates.specs.Candidates.{bareRow, fallRow, Sown, Far}
 use Rattle.standings.specs.declared.Standing.{Standing}
 
--- the three columns that every row reads, of a log that is not too long
-pub record Columns (x border bare fall : List ℕ) : Type 0 where
+-- the border table of a log that is not too long
+pub record Bordered (x border : List ℕ) : Type 0 where
   pub most : length x ≤ longest
   pub borders : Holds borderRow x border
+
+-- the three columns that every row reads
+pub record Columns (x border bare fall : List ℕ) : Type 0 where
+  pub bordered : Bordered x border
   pub bares : Holds bareRow x bare
   pub falls : Holds fallRow x fall
 

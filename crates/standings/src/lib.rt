@@ -5,7 +5,7 @@ ghost use Prim.Native.Nat.{_+_, _≤_, _<_, max};
 ghost use lib.ListN.{length};
 ghost use Rattle.enhanced.specs.Tallies.{Tallies, Judgement};
 ghost use Rattle.candidates.specs.Candidates.{Sown};
-ghost use Rattle.standings.specs.Standings.{Columns, Goes, Ends, Turns, Stands, Ended, After, noStanding};
+ghost use Rattle.standings.specs.Standings.{Bordered, Columns, Goes, Ends, Turns, Stands, Ended, After, noStanding};
 use candidates::Seed;
 use enhanced::Pick;
 use repeats::Found;
@@ -56,8 +56,8 @@ fn start_after(border: &[u16], s: Seed, len: usize) -> usize
 }
 
 // The seed goes on over one reading more, or a better pattern ends there.
-fn on(x: &[u8], border: &[u16], bare: &[u16], fall: &[u16], j: usize, s: Seed, b: Found) -> Seed
-    requires { ⌜ Columns (now x) (now border) (now bare) (now fall) × Goes (now x) j s b ⌝ }
+fn on(x: &[u8], border: &[u16], j: usize, s: Seed, b: Found) -> Seed
+    requires { ⌜ Bordered (now x) (now border) × Goes (now x) j s b ⌝ }
     ensures { λ r. ⌜ Sown (now (x .entry)) (j + 1) r ⌝ }
 {
     let more = Found {
@@ -73,8 +73,8 @@ fn on(x: &[u8], border: &[u16], bare: &[u16], fall: &[u16], j: usize, s: Seed, b
 }
 
 // The pattern b ends there, and covers more than any that does not end there can reach.
-fn ending(x: &[u8], border: &[u16], bare: &[u16], fall: &[u16], j: usize, s: Seed, b: Found) -> Seed
-    requires { ⌜ Columns (now x) (now border) (now bare) (now fall) × Ends (now x) j s b ⌝ }
+fn ending(x: &[u8], border: &[u16], j: usize, s: Seed, b: Found) -> Seed
+    requires { ⌜ Bordered (now x) (now border) × Ends (now x) j s b ⌝ }
     ensures { λ r. ⌜ Sown (now (x .entry)) (j + 1) r ⌝ }
 {
     Seed {
@@ -129,14 +129,15 @@ fn next(
     requires { ⌜ Columns (now x) (now border) (now bare) (now fall) × Tallies (now x) (now last) (now held) (j + 1) × Sown (now x) j s × Ended (now x) j b × Turns (now x) j left far ⌝ }
     ensures { λ r. ⌜ Sown (now (x .entry)) (j + 1) r ⌝ }
 {
+    // The language takes no field of a struct for an index.
     let at = s.start;
     if s.len != 0 {
         if x[at] == x[j] {
-            return on(x, border, bare, fall, j, s, b);
+            return on(x, border, j, s, b);
         }
     }
     if s.count + 1 < b.count {
-        return ending(x, border, bare, fall, j, s, b);
+        return ending(x, border, j, s, b);
     }
     rest(x, border, bare, fall, last, held, j, left, far)
 }

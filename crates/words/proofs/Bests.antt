@@ -10,7 +10,7 @@ use native.Mathlib.Omega.{arith}
 use Rattle.words.specs.Words.{isBorder, covered, worth, best, count}
 use Rattle.words.proofs.Tests.{cond-case}
 use Rattle.words.proofs.Search.{peak-lt}
-use Rattle.words.proofs.Tops.{Top, top-none, top-one, top-peak}
+use Rattle.words.proofs.Tops.{Top, top-none, top-one, top-zero, top-peak}
 use Rattle.words.proofs.Borders.{Border, isBorder-iff}
 use Rattle.words.proofs.Counts.{covered-le, covered-empty, covered-some}
 
@@ -67,7 +67,7 @@ module _ (ag : ℕ → ℕ → Bool) (x : List ℕ) (i : ℕ) where
   best-zero none = best-one best-best (top-none none)
 
   pub zero-best : count ag x i ≡ 0 → (m : ℕ) → Nonempty ag x i m → ⊥
-  zero-best z m b = omega (arith, best-best .most m b, some-covered m b)
+  zero-best z = top-zero some-covered (rw z at best-best)
 
   pub best-some : (m : ℕ) → Nonempty ag x i m → 0 < best ag x i
   best-some m b = ⊎-elim (λ z. absurd (zero-best (z .1) m b)) (λ v. v .0 .0) (best-best .is)

@@ -5,13 +5,13 @@ use mathlib.Core.Path.{_≡_}
 use mathlib.Core.List.{List}
 use mathlib.Core.Logic.{_⊎_, inl, inr, ⊎-elim}
 use Prim.Native.Nat.{ℕ, zero, suc, _-_, _≤_, _<_, max}
-use native.Mathlib.Nat.{eq-or-lt-of-le, le-trans}
+use native.Mathlib.Nat.{eq-or-lt-of-le}
 use native.Mathlib.Omega.{arith}
 use lib.Dec.{eqb, leb}
 use borrow.Author.Tests.{leb-true, leb-false}
 use Rattle.words.specs.Words.{cover, covered, best, count}
 use Rattle.words.proofs.Tests.{cond-case, le-or-lt}
-use Rattle.words.proofs.Tops.{Top, Under, top-none, top-join}
+use Rattle.words.proofs.Tops.{Top, Under, Stand, wins-later, top-none, top-join, top-all, top-within}
 use Rattle.words.proofs.Occurrences.{eqb-refl}
 use Rattle.words.proofs.Borders.{Border, border-trans}
 use Rattle.words.proofs.Covers.{Covers, covers-self, covers-through, covers-border, cover-covers, cover-lt}
@@ -53,7 +53,7 @@ root-weighs x i q b r = record {
 
 -- ---- the best so far: b is the shortest of the weighed borders of i above w that cover the most, k positions; both 0 where there is none
 
-abbrev Above : List ℕ → ℕ → ℕ → ℕ → Type 0
+abbrev pub Above : List ℕ → ℕ → ℕ → ℕ → Type 0
 Above x i w m = (w < m) × Weighs eqb x i m
 
 abbrev pub Picked : List ℕ → ℕ → ℕ → ℕ → ℕ → Type 0
@@ -78,13 +78,8 @@ module _ {x : List ℕ} {i : ℕ} where
         (le-or-lt m w)
 
     better : c ≤ k → Picked x i (heaviest x w) w k
-    better h = top-join (inr ((lower, v), omega arith)) under (⊎-elim
-        (λ (z : c ≡ k). inr (z, ⊎-elim (λ y. absurd (omega (arith, y .1, some))) (λ u. omega (arith, u .0 .0)) (s .is)))
-        (λ (l : c < k). inl l)
-        (eq-or-lt-of-le h))
-      where
-        some : 0 < k
-        some = omega (arith, covered-some eqb x i w (v .some) (v .border))
+    better h = top-join (inr ((lower, v), omega arith)) under
+        (wins-later w k s (λ m u. omega (arith, u .0)) (omega (arith, covered-some eqb x i w (v .some) (v .border))) h)
 
     worse : k < c → Picked x i (heaviest x w) b c
     worse h = top-join
@@ -98,47 +93,21 @@ module _ {x : List ℕ} {i : ℕ} where
         (λ t. let h = leb-true c k t in let z : max c k ≡ k = omega arith in rw z (better h))
         (λ t. let h = leb-false c k t in let z : max c k ≡ c = omega arith in rw z (worse h))
 
--- the best of the weighed borders is the best of all borders: the shortest cover of a border is weighed, and covers what the border covers
-module _ (x : List ℕ) (i m : ℕ) (h : Nonempty eqb x i m) where
-  r : Root x m
-  r = root x m (h .0)
+-- the shortest cover of a border is weighed, no longer, and covers what the border covers
+pub stands : (x : List ℕ) (i m : ℕ) → Nonempty eqb x i m → Stand (Above x i 0) (covered eqb x i) m
+stands x i m h =
+    let r = root x m (h .0) in
+    record { at = r .len; has = (r .covers .some, root-weighs x i m (h .1) r); less = r .covers .most; most = covered-through x (r .len) m i (r .covers) }
 
-  abbrev stand : ℕ
-  stand = r .len
+weighs-nonempty : (x : List ℕ) (i m : ℕ) → Above x i 0 m → Nonempty eqb x i m
+weighs-nonempty x i m w = (w .0, w .1 .border)
 
-  stands : Above x i 0 stand
-  stands = (r .covers .some, root-weighs x i m (h .1) r)
-
-  stands-most : covered eqb x i m ≤ covered eqb x i stand
-  stands-most = covered-through x stand m i (r .covers)
-
-  stands-short : stand ≤ m
-  stands-short = r .covers .most
-
+-- so the best of the weighed borders is the best of all borders, and back
 pub picked-all : {x : List ℕ} {i b k : ℕ} → Picked x i 0 b k → Best eqb x i b k
-picked-all {x} {i} {b} {k} s = record {
-  most = λ m h. le-trans (stands-most x i m h) (s .most (stand x i m h) (stands x i m h));
-  least = λ m h e.
-      let u = s .most (stand x i m h) (stands x i m h) in
-      le-trans (s .least (stand x i m h) (stands x i m h) (omega (arith, stands-most x i m h))) (stands-short x i m h);
-  is = ⊎-elim (λ z. inl z) (λ v. inr ((v .0 .1 .some, v .0 .1 .border), v .1)) (s .is);
-}
+picked-all {x} {i} = top-all (stands x i) (weighs-nonempty x i)
 
--- and back: the best of all borders is weighed, and so the best of the weighed
 pub all-picked : {x : List ℕ} {i b k : ℕ} → Best eqb x i b k → Picked x i 0 b k
-all-picked {x} {i} {b} {k} s = record {
-  most = λ m h. s .most m (h .0, h .1 .border);
-  least = λ m h. s .least m (h .0, h .1 .border);
-  is = ⊎-elim (λ z. inl z) (λ v. inr (weighed-best (v .0) (v .1), v .1)) (s .is);
-}
-  where
-    weighed-best : Nonempty eqb x i b → k ≡ covered eqb x i b → Above x i 0 b
-    weighed-best h d =
-        let w = stands x i b h in
-        let o : Nonempty eqb x i (stand x i b h) = (w .0, w .1 .border) in
-        let l = s .least (stand x i b h) o (omega (arith, stands-most x i b h, s .most (stand x i b h) o)) in
-        let e : stand x i b h ≡ b = omega (arith, stands-short x i b h) in
-        rw e at w
+all-picked {x} {i} = top-within (stands x i) (weighs-nonempty x i)
 
 module _ (x : List ℕ) (i : ℕ) {b k : ℕ} (s : Picked x i 0 b k) where
   pub picked-best : b ≡ best eqb x i

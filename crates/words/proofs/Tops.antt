@@ -8,7 +8,7 @@ use Rattle.words.specs.Search.{peak}
 use Rattle.words.proofs.Tests.{le-or-lt}
 use Rattle.words.proofs.Search.{peak-most, peak-least}
 
--- b is the least of the numbers that have P and at which g is greatest, and k is g there; both are 0 where none has P
+-- b is the least of the numbers that have P and at which g is greatest, and k is g there; or both are 0, and then, where g is not 0 at them, none has P
 pub record Top (P : ℕ → Type 0) (g : ℕ → ℕ) (b k : ℕ) : Type 0 where
   pub most : (m : ℕ) → P m → g m ≤ k
   pub least : (m : ℕ) → P m → g m ≡ k → b ≤ m
@@ -35,6 +35,10 @@ module _ {P : ℕ → Type 0} {g : ℕ → ℕ} where
         let e = le-antisymm (value-most s t) (value-most t s) in
         (le-antisymm (place-least s t e) (place-least t s (sym e)), e)
 
+    -- 0 says that none has P
+    pub top-zero : {b : ℕ} → Top P g b 0 → (m : ℕ) → P m → ⊥
+    top-zero t m p = omega (arith, t .most m p, some m p)
+
     -- the peak of a value that is g where P holds and 0 elsewhere
     pub top-peak : (v : ℕ → ℕ) (n : ℕ) → ((m : ℕ) → P m → (m < n) × (v m ≡ g m)) → ((m : ℕ) → 0 < v m → P m) → Top P g (peak v n) (v (peak v n))
     top-peak v n has back = record {
@@ -60,6 +64,41 @@ top-same to from t = record {
   is = ⊎-elim (λ z. inl z) (λ v. inr (to _ (v .0), v .1)) (t .is);
 }
 
+-- ---- of fewer: m has one beside it that has Q, is no greater and is worth no less
+
+pub record Stand (Q : ℕ → Type 0) (g : ℕ → ℕ) (m : ℕ) : Type 0 where
+  pub at : ℕ
+  pub has : Q at
+  pub less : at ≤ m
+  pub most : g m ≤ g at
+
+-- where each that has P has one that has Q beside it, the top of those is the top of all, and back
+module _ {P Q : ℕ → Type 0} {g : ℕ → ℕ} {b k : ℕ} (stands : (m : ℕ) → P m → Stand Q g m) (some : (m : ℕ) → Q m → P m) where
+  pub top-all : Top Q g b k → Top P g b k
+  top-all t = record {
+    most = λ m p. let s = stands m p in omega (arith, s .most, t .most (s .at) (s .has));
+    least = λ m p e.
+        let s = stands m p in
+        let u = t .most (s .at) (s .has) in
+        let l = t .least (s .at) (s .has) (omega (arith, s .most)) in
+        omega (arith, s .less);
+    is = ⊎-elim (λ z. inl z) (λ v. inr (some b (v .0), v .1)) (t .is);
+  }
+
+  pub top-within : Top P g b k → Top Q g b k
+  top-within t = record {
+    most = λ m q. t .most m (some m q);
+    least = λ m q. t .least m (some m q);
+    is = ⊎-elim (λ z. inl z) (λ v. inr (has (v .0) (v .1), v .1)) (t .is);
+  }
+    where
+      has : P b → k ≡ g b → Q b
+      has p d =
+          let s = stands b p in
+          let l = t .least (s .at) (some (s .at) (s .has)) (omega (arith, s .most, t .most (s .at) (some (s .at) (s .has)))) in
+          let e : s .at ≡ b = omega (arith, s .less) in
+          rw e at (s .has)
+
 -- ---- of two: b with k is worth more than c with l, or as much and is no longer
 
 abbrev pub Wins : ℕ → ℕ → ℕ → ℕ → Type 0
@@ -73,6 +112,13 @@ wins-or b k c l = ⊎-elim
     (eq-or-lt-of-le h))
     (λ (h : l < k). inl (inl h))
     (le-or-lt k l)
+
+-- one that is less than all before it wins where it is worth as much
+pub wins-later : {P : ℕ → Type 0} {g : ℕ → ℕ} {b c : ℕ} (w k : ℕ) → Top P g b c → ((m : ℕ) → P m → w ≤ m) → 0 < k → c ≤ k → Wins w k b c
+wins-later {b = b} {c = c} w k t less some h = ⊎-elim
+    (λ (z : c ≡ k). inr (z, ⊎-elim (λ y. absurd (omega (arith, y .1))) (λ v. less b (v .0)) (t .is)))
+    (λ (l : c < k). inl l)
+    (eq-or-lt-of-le h)
 
 -- m is worth no more than k, and where as much it is no less than b
 abbrev pub Under : (ℕ → ℕ) → ℕ → ℕ → ℕ → Type 0

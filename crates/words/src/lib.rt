@@ -13,7 +13,7 @@ pub const BREAKDOWN_PLACES: usize = 13;
 // The symbol of a reading at the ceiling (`ceilingSymbol` of specs/); no symbol is greater.
 pub const CEILING: u8 = 20;
 
-// A call that only writes a table.
+// A call that only writes tables.
 #[repr(C)]
 pub struct Written {
     pub number: u8,
