@@ -1,2 +1,2 @@
 mod Tallies
-mod Steps
+pub mod Steps

@@ -3,7 +3,6 @@ use mathlib.Core.Path.{_≡_, refl, ap}
 use mathlib.Core.List.{List}
 use mathlib.Core.Logic.{⊎-elim}
 use Prim.Native.Nat.{ℕ, _+_, _≤_, _<_}
-use native.Mathlib.Nat.{not-suc-le-zero, lt-of-lt-of-le}
 use native.Mathlib.Omega.{arith}
 use lib.Dec.{eqb}
 use lib.ListN.{length, set}
@@ -13,13 +12,11 @@ use Rattle.words.specs.Tables.{Column, borderRow, written}
 use Rattle.words.specs.Refusals.{longest}
 use Rattle.words.proofs.Tables.{Room, Holds, Filled, Rows, rows-more, written-holds}
 use Rattle.words.proofs.Weighs.{heaviestRow, heaviest-lt}
-use Rattle.enhanced.specs.Tallies.{Tallies}
 use Rattle.repeats.specs.Repeats.{leftSeedRow, seedCountRow}
 use Rattle.repeats.proofs.Seeds.{reached-le, seed-seed, seed-one}
 use Rattle.candidates.specs.Candidates.{bareRow, fallRow}
 use Rattle.standings.specs.declared.Standing.{Standing}
 use Rattle.standings.specs.Standings.{Columns, Stands}
-use Rattle.left_seeds.specs.Works.{Work}
 
 -- ---- `row`
 
@@ -34,9 +31,6 @@ pub chain-set : (v : List ℕ) (j : ℕ) {w u : ℕ} → w ≡ u → set v j w �
 chain-set v j e = ap (set v j) e
 
 -- ---- `judge`
-
-pub first-tallies : {x c v l h p k : List ℕ} → Work x c v l h p k → Tallies x l h 0
-first-tallies r = record { lasts = r .lasts; holds = r .holds; each = λ n h l. absurd (not-suc-le-zero (lt-of-lt-of-le h l)) }
 
 pub chain-more : {x v₀ v u : List ℕ} {j : ℕ} → Rows heaviestRow x v₀ v j → j < length x → u ≡ set v j (heaviestRow x j) → Rows heaviestRow x v₀ u (j + 1)
 chain-more w h e = rw e (rows-more w h refl)

@@ -5,10 +5,9 @@ ghost use lib.ListN.{length, set};
 ghost use Rattle.words.specs.Tables.{coverRow, written};
 ghost use Rattle.words.proofs.Tables.{Room, Holds, Filled};
 ghost use Rattle.words.proofs.Weighs.{heaviestRow};
-ghost use Rattle.enhanced.specs.Tallies.{Tallies};
+ghost use Rattle.enhanced.specs.Tallies.{Tallies, Work};
 ghost use Rattle.repeats.specs.Repeats.{leftSeedRow, seedCountRow};
 ghost use Rattle.standings.specs.Standings.{Columns, Stands};
-ghost use Rattle.left_seeds.specs.Works.{Work};
 
 // One row: its weighed borders are tallied, and its entry in their chain is made.
 fn row(
@@ -47,7 +46,7 @@ fn judge(
     best: &mut [u16],
     count: &mut [u16],
 )
-    requires { ⌜ Columns (now x) (now border) (now bare) (now fall) × Work (now x) (now cover) (now chain) (now last) (now held) (now best) (now count) ⌝ }
+    requires { ⌜ Columns (now x) (now border) (now bare) (now fall) × Work (now x) (now border) (now cover) (now chain) (now last) (now held) (now best) (now count) ⌝ }
     ensures best { λ _. ⌜ now (best .exit) ≡ written (leftSeedRow (now (x .entry))) (length (now (x .entry))) (now (best .entry)) ⌝ }
     ensures count { λ _. ⌜ now (count .exit) ≡ written (seedCountRow (now (x .entry))) (length (now (x .entry))) (now (count .entry)) ⌝ }
 {

@@ -8,10 +8,11 @@ use Rattle.words.specs.Refusals.{longest}
 use Rattle.words.proofs.Tables.{Rows, rows-none, rows-length, rows-inside, rows-filled, rows-more, rows-done}
 use Rattle.words.proofs.Weighs.{heaviestRow}
 use Rattle.enhanced.specs.Tallies.{Tallies}
+use Rattle.enhanced.proofs.Steps.{first-tallies}
 use Rattle.repeats.specs.Repeats.{leftSeedRow, seedCountRow}
 use Rattle.standings.specs.Standings.{Stands}
 use Rattle.standings.proofs.Steps.{stands-none}
-use Rattle.left_seeds.proofs.Steps.{first-tallies, chain-more, seed-row, count-row, seed-fits, reach-fits}
+use Rattle.left_seeds.proofs.Steps.{chain-more, seed-row, count-row, seed-fits, reach-fits}
 use Rattle.left_seeds.proofs.judge.Statement.{statement}
 use Rattle.left_seeds.proofs.judge.Tie as tie
 

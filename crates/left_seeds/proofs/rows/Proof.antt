@@ -21,7 +21,7 @@ rows-spec =
     (λ c. search needs)
     (λ c κs. (
       search needs,
-      record { covers = search needs; chains = search needs; lasts = search needs; holds = search needs; bests = search needs; counts = search needs },
+      record { most = search needs; borders = search needs; covers = search needs; chains = search needs; lasts = search needs; holds = search needs; bests = search needs; counts = search needs },
     ))
     (λ c. search needs)
     (λ c. search needs)
