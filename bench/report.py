@@ -61,9 +61,9 @@ def table_of_one(counts, call, cell):
 
 
 def stack_table(path):
-    """A line a call, its name and its bytes."""
+    """A line a call: its name, its bytes, and these in arrays of the log's length."""
     rows = (line.split() for line in path.read_text().splitlines())
-    return "\n".join(["| call | bytes |", "|---|---:|"] + [f"| {call} | {int(size):,} |" for call, size in rows])
+    return "\n".join(["| call | bytes | arrays |", "|---|---:|---:|"] + [f"| {call} | {int(size):,} | {arrays} |" for call, size, arrays in rows])
 
 
 def markdown(counts, times, pairs, stack, built, plot):
@@ -127,7 +127,7 @@ Nanoseconds a reading, the median of many calls: proved / plain C / plain Rust:
 
 {table(times, times.sizes[-1:], time)}
 
-Bytes of stack that a call takes beyond an empty one:
+Bytes of stack that a call takes beyond an empty one, and how many arrays of the log's length they are:
 
 {stack}
 

@@ -1,6 +1,7 @@
 /*
  * How much stack each call takes: it is run on a painted stack of its own, on the longest random log, and the paint that it
- * wore off is counted. A line a call: its name and the bytes.
+ * wore off is counted. A line a call: its name, the bytes, and how many arrays of the log's length they are. A call that takes
+ * more arrays than it is allowed, and a quarter of one for all else, is named, and the program fails.
  */
 #include "finder.h"
 #include "logs.h"
@@ -10,7 +11,7 @@
 #include <stdlib.h>
 #include <string.h>
 
-enum { SIZE = 1 << 20, PAINT = 0xA5 };
+enum { SIZE = 1 << 20, PAINT = 0xA5, ARRAY = FINDER_LONGEST * sizeof(uint16_t) };
 
 static uint8_t x[FINDER_LONGEST];
 static uint16_t t[5][FINDER_LONGEST];
@@ -59,14 +60,21 @@ static size_t worn_by(void (*call)(void))
 
 int main(void)
 {
-    static const struct { const char *name; void (*call)(void); } calls[] = {
-        {"border_table", border_table}, {"prefix_table", prefix_table}, {"cover_table", cover_table},
-        {"enhanced_table", enhanced_table}, {"left_covers", left_covers}, {"left_seeds", left_seeds}, {"window", window},
-        {"normal_form", normal_form}, {"breakdown", breakdown}, {"cover_list", cover_list}, {"cover_test", cover_test},
-        {"weighed_list", weighed_list}, {"best_pattern", best_pattern}, {"ceiling", ceiling}};
+    static const struct { const char *name; void (*call)(void); size_t arrays; } calls[] = {
+        {"border_table", border_table, 0}, {"prefix_table", prefix_table, 0}, {"cover_table", cover_table, 2},
+        {"enhanced_table", enhanced_table, 3}, {"left_covers", left_covers, 3}, {"left_seeds", left_seeds, 6}, {"window", window, 2},
+        {"normal_form", normal_form, 1}, {"breakdown", breakdown, 1}, {"cover_list", cover_list, 3}, {"cover_test", cover_test, 1},
+        {"weighed_list", weighed_list, 4}, {"best_pattern", best_pattern, 5}, {"ceiling", ceiling, 0}};
     size_t idle = worn_by(nothing);
+    int failed = 0;
     make_log(RANDOM, x, FINDER_LONGEST);
-    for (size_t k = 0; k < sizeof calls / sizeof *calls; k++)
-        printf("%s %zu\n", calls[k].name, worn_by(calls[k].call) - idle);
-    return 0;
+    for (size_t k = 0; k < sizeof calls / sizeof *calls; k++) {
+        size_t taken = worn_by(calls[k].call) - idle;
+        printf("%s %zu %.2f\n", calls[k].name, taken, (double)taken / ARRAY);
+        if (taken > calls[k].arrays * ARRAY + ARRAY / 4) {
+            fprintf(stderr, "stack.c: %s takes more than %zu arrays of the log's length\n", calls[k].name, calls[k].arrays);
+            failed = 1;
+        }
+    }
+    return failed;
 }

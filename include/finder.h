@@ -11,6 +11,7 @@
  *   - Lent tables overlap neither each other nor the log. The log is only read.
  *   - What stood in a table before never matters to an answer.
  *   - There is no state: no memory is kept or allocated, and calls may run at the same time on tables of their own.
+ *   - A call works on the stack: arrays of 8 KB, at most six of them, and 2 KB beside. docs/SPEED.md says how many each call takes.
  */
 #ifndef FINDER_H
 #define FINDER_H

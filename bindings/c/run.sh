@@ -26,3 +26,7 @@ echo "c example: shows what it should"
 gcc -std=c99 -O1 -g "${warnings[@]}" -fsanitize=address,undefined -fno-sanitize-recover=all -I../../include -I../../bench \
     test_finder.c ../../bench/logs.c "$library" -o "$made/test_finder"
 "$made/test_finder"
+
+gcc -std=gnu11 -O2 -pthread "${warnings[@]}" -Wl,-z,now -I../../include -I../../bench ../../bench/stack.c ../../bench/logs.c "$library" -o "$made/stack_use"
+"$made/stack_use" >/dev/null
+echo "c stack: no call takes more arrays than it may"

@@ -18,7 +18,7 @@ use Rattle.words.proofs.Tables.{Holds, Filled}
 use Rattle.words.proofs.Borders.{border-border, border-lt, border-most}
 use Rattle.words.proofs.Counts.{covered-le, covered-stays}
 use Rattle.words.proofs.Occurrences.{eqb-refl}
-use Rattle.enhanced.specs.Tallies.{Tally, Tallies}
+use Rattle.tallies.specs.Tallies.{Tally, Tallies}
 use Rattle.repeats.specs.Repeats.{reached}
 use Rattle.repeats.proofs.Repeating.{repeats-shorter, repeats-border}
 use Rattle.repeats.proofs.Seeds.{repeats-reached}

@@ -7,7 +7,7 @@ ghost use Rattle.words.specs.Words as Words;
 ghost use Rattle.words.specs.Tables.{borderRow, coverRow, written};
 ghost use Rattle.words.specs.Refusals as Refusals;
 ghost use Rattle.words.proofs.Tables.{Room, Holds, Filled};
-ghost use Rattle.enhanced.specs.Tallies.{Tallies};
+ghost use Rattle.tallies.specs.Tallies.{Tallies};
 ghost use Rattle.repeats.specs.Repeats.{reached};
 ghost use Rattle.repeats.proofs.Starts as Starts;
 ghost use Rattle.repeats.proofs.LeftSeeds.{Bare};
@@ -100,7 +100,7 @@ fn weighed(x: &[u8], last: &[u16], held: &[u16], i: usize, q: usize, m: usize, s
     if c + m < s.count {
         return s;
     }
-    let k = enhanced::grown(m, i, words::wide(last[q - 1]), c);
+    let k = tallies::grown(m, i, words::wide(last[q - 1]), c);
     taken(s, q, k, m)
 }
 

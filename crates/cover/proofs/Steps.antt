@@ -4,18 +4,18 @@ use mathlib.Core.List.{List}
 use Prim.Native.Nat.{ℕ, _+_, _*_, _-_, _≤_, _<_}
 use native.Mathlib.Nat.{le-antisymm}
 use native.Mathlib.Omega.{arith}
-use lib.ListN.{length, getD, set, replicate, getD-replicate, length-replicate, length-set}
-use lib.Seq.{getD-set-other}
+use lib.ListN.{length, getD, set, length-set}
+use lib.Seq.{getD-set-same, getD-set-other}
 use lib.Dec.{eqb}
 use mir.Syntax.{w16, w64}
 use mir.Val.{Fits}
 use Rattle.words.specs.Words.{border, cover}
 use Rattle.words.specs.Tables.{borderRow, coverRow}
 use Rattle.words.specs.Refusals.{longest}
-use Rattle.words.proofs.Tables.{Filled, Room, Holds}
+use Rattle.words.proofs.Tables.{Filled, Holds, Rows, rows-under}
 use Rattle.words.proofs.Borders.{border-lt, border-step}
 use Rattle.words.proofs.Covers.{cover-lt}
-use Rattle.cover.specs.Tree.{Forest, Found, Ready}
+use Rattle.cover.specs.Tree.{Forest, Found, Blank, Ready}
 use Rattle.cover.proofs.Walk.{Walk, walk-start}
 use Rattle.cover.proofs.Tree.{Falling, fall-some, fall-below, fall-counted, fall-next, find-hit, find-next, find-short, jump-below, jump-falls, forest-first, count-fits, tree-grow}
 
@@ -83,22 +83,23 @@ module _ {x up kids : List ℕ} {j b q : ℕ} (f : Forest x up kids (j + 1 - b) 
 
 -- ---- `grow`
 
-module _ {x b up kids t : List ℕ} (r : Ready x b up kids t) where
+module _ {x up kids t₀ : List ℕ} (r : Ready x up kids t₀) where
   pub grow-first : Forest x up kids 1 0 0
   grow-first = forest-first (r .ups) (r .counts) (r .root) (r .one) (r .none)
 
-  pub grow-border : {f : ℕ} (j : ℕ) → f ≡ getD b j 0 → j < length x → f ≡ borderRow x j
-  grow-border j e h = e ∙ r .border .rows j h
+  module _ {t : List ℕ} {f : ℕ} (j : ℕ) (w : Rows coverRow x t₀ t j) (e : f ≡ getD t j 0) (h : j < length x) where
+    pub grow-border : f ≡ borderRow x j
+    grow-border = rows-under coverRow borderRow e w (r .border) h
 
-  pub grow-below : {f : ℕ} (j : ℕ) → f ≡ getD b j 0 → j < length x → f ≤ j + 1
-  grow-below j e h = omega (arith, grow-border j e h, border-lt eqb x (j + 1) (omega arith))
+    pub grow-below : f ≤ j + 1
+    grow-below = omega (arith, grow-border, border-lt eqb x (j + 1) (omega arith))
 
-  pub grow-later : {f per : ℕ} (j : ℕ) → f ≡ getD b j 0 → j < length x → per ≤ j + 1 - borderRow x j → per ≤ j + 1 - f
-  grow-later j e h l = omega (arith, grow-border j e h)
+    pub grow-later : {per : ℕ} → per ≤ j + 1 - borderRow x j → per ≤ j + 1 - f
+    grow-later l = omega (arith, grow-border)
 
-  -- the window of a row starts no lower than that of the row before
-  pub grow-window : {f : ℕ} (j : ℕ) → f ≡ getD b j 0 → j < length x → j + 1 - f ≤ j + 1 + 1 - borderRow x (j + 1)
-  grow-window j e h = omega (arith, grow-border j e h, border-step eqb x (j + 1))
+    -- the window of a row starts no lower than that of the row before
+    pub grow-window : j + 1 - f ≤ j + 1 + 1 - borderRow x (j + 1)
+    grow-window = omega (arith, grow-border, border-step eqb x (j + 1))
 
 pub window-first : (x : List ℕ) → 1 ≤ 0 + 1 - borderRow x 0
 window-first x = omega (arith, border-lt eqb x 1 (omega arith))
@@ -122,7 +123,15 @@ module _ {x up kids : List ℕ} {j f q : ℕ} (w : Found x up kids j f q) (h : j
   pub grow-more : Forest x (set up (j + 1) (j + 1)) (set kids q (getD kids q 0 + 1)) (j + 1 - f) (j + 1) 0
   grow-more = tree-grow (w .forest) h (omega arith) refl (w .cover) (w .live) refl
 
--- ---- `rows`: the work arrays, before the first turn
+-- ---- `rows`: the root is counted
 
-pub counts-none : (n a : ℕ) → 0 < a → a < n → _≡_ {A = ℕ} (getD (set (replicate n 0) 0 1) a 0) 0
-counts-none n a h l = getD-set-other (replicate n 0) 0 a 1 0 (λ z. omega arith) ∙ getD-replicate n a 0 0 l
+pub root-counted : {x up kids t : List ℕ} → Holds borderRow x t → length x ≤ longest → Blank x up kids → Ready x up (set kids 0 1) t
+root-counted {x} {up} {kids} b m l = record {
+  most = m;
+  border = b;
+  ups = l .ups;
+  counts = rw (length-set kids 0 1) (l .counts);
+  root = l .root;
+  one = getD-set-same kids 0 1 0 (omega (arith, l .counts));
+  none = λ a h g. getD-set-other kids 0 a 1 0 (λ z. omega arith) ∙ l .none a g;
+}

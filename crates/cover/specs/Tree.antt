@@ -13,7 +13,8 @@ use Rattle.words.specs.Search.{howMany}
 use Rattle.words.specs.Words.{cover}
 use Rattle.words.specs.Tables.{borderRow, coverRow}
 use Rattle.words.proofs.Covers.{Covers}
-use Rattle.words.proofs.Tables.{Room, Holds}
+use Rattle.words.specs.Refusals.{longest}
+use Rattle.words.proofs.Tables.{Holds}
 
 abbrev pub Live : List ℕ → ℕ → Type 0
 Live up m = getD up m 0 ≡ m
@@ -46,10 +47,17 @@ pub record Found (x up kids : List ℕ) (j b r : ℕ) : Type 0 where
   pub live : Live up r
   pub cover : r ≡ coverRow x j
 
--- what `grow` is lent: the border table in b, room in t, up and kids, and in kids the root counted alone, as its own child
-pub record Ready (x b up kids t : List ℕ) : Type 0 where
-  pub lent : Room x t
-  pub border : Holds borderRow x b
+-- up and kids have an entry for each length, from 0; what the tree starts from is 0
+pub record Blank (x up kids : List ℕ) : Type 0 where
+  pub ups : length x < length up
+  pub counts : length x < length kids
+  pub root : Live up 0
+  pub none : (a : ℕ) → a ≤ length x → getD kids a 0 ≡ 0
+
+-- what `grow` is lent: t with the border table, which the cover table is laid over, and in kids the root counted alone, as its own child
+pub record Ready (x up kids t : List ℕ) : Type 0 where
+  pub most : length x ≤ longest
+  pub border : Holds borderRow x t
   pub ups : length x < length up
   pub counts : length x < length kids
   pub root : Live up 0

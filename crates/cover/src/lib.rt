@@ -4,8 +4,8 @@ ghost use Prim.Native.Nat.{_+_, _-_, _≤_};
 ghost use lib.ListN.{length};
 ghost use Rattle.words.specs.Tables.{borderRow, coverRow, written};
 ghost use Rattle.words.specs.Refusals.{longest};
-ghost use Rattle.words.proofs.Tables.{Room, Holds, Filled};
-ghost use Rattle.cover.specs.Tree.{Forest, Found, Ready};
+ghost use Rattle.words.proofs.Tables.{Holds, Filled};
+ghost use Rattle.cover.specs.Tree.{Forest, Found, Blank, Ready};
 
 // The length p falls out of the window: it dies if it has no living child, and so does each cover above it that is left with none.
 fn retire(x: &[u8], t: &[u16], up: &mut [u16], kids: &mut [u16], j: usize, p: usize)
@@ -50,15 +50,15 @@ fn find(x: &[u8], up: &mut [u16], kids: &[u16], j: usize, b: usize) -> usize
     }
 }
 
-// The rows, from the border table, with room to work in.
-fn grow(x: &[u8], border: &[u16], up: &mut [u16], kids: &mut [u16], t: &mut [u16])
-    requires { ⌜ Ready (now x) (now border) (now up) (now kids) (now t) ⌝ }
+// The rows, with room to work in. A row's border is asked for at that row alone: its cover is laid over it.
+fn grow(x: &[u8], up: &mut [u16], kids: &mut [u16], t: &mut [u16])
+    requires { ⌜ Ready (now x) (now up) (now kids) (now t) ⌝ }
     ensures { λ _. ⌜ now (t .exit) ≡ written (coverRow (now (x .entry))) (length (now (x .entry))) (now (t .entry)) ⌝ }
 {
     let mut period = 1;
     let mut j = 0;
     while j < x.len() {
-        let b = words::wide(border[j]);
+        let b = words::wide(t[j]);
         let i = j + 1;
         advance(x, t, up, kids, j, period, i - b);
         let q = find(x, up, kids, j, b);
@@ -70,13 +70,11 @@ fn grow(x: &[u8], border: &[u16], up: &mut [u16], kids: &mut [u16], t: &mut [u16
     }
 }
 
-// Writes the cover table of x into the first rows of t, from its border table.
-pub fn rows(x: &[u8], border: &[u16], t: &mut [u16])
-    requires { ⌜ Room (now x) (now t) × Holds borderRow (now x) (now border) ⌝ }
+// Lays the cover table of x over its border table, with which t comes. Two arrays to work in are lent; what is in them afterwards means nothing.
+pub fn rows(x: &[u8], up: &mut [u16], kids: &mut [u16], t: &mut [u16])
+    requires { ⌜ Holds borderRow (now x) (now t) × (length (now x) ≤ longest) × Blank (now x) (now up) (now kids) ⌝ }
     ensures { λ _. ⌜ now (t .exit) ≡ written (coverRow (now (x .entry))) (length (now (x .entry))) (now (t .entry)) ⌝ }
 {
-    let mut up = [0u16; words::LONGEST + 1];
-    let mut kids = [0u16; words::LONGEST + 1];
     kids[0] = 1;
-    grow(x, border, &mut up, &mut kids, t);
+    grow(x, up, kids, t);
 }

@@ -5,41 +5,37 @@ ghost use Prim.Native.Nat.{_≤_, _<_};
 ghost use lib.Dec.{eqb};
 ghost use lib.ListN.{length, drop};
 ghost use Rattle.words.specs.Words as Words;
-ghost use Rattle.words.specs.Tables.{borderRow, prefixRow, coverRow, bestRow, countRow, written};
+ghost use Rattle.words.specs.Tables.{coverRow, bestRow, countRow, written};
 ghost use Rattle.words.specs.Answers.{breakdownPlaces, broken, listed};
 ghost use Rattle.words.proofs.Tables.{Room, Holds};
 ghost use Rattle.words.proofs.Refusals.{Judged};
-
-// The border table of x, then its cover table.
-pub fn borders_and_covers(x: &[u8], border: &mut [u16], cover: &mut [u16])
-    requires { ⌜ Room (now x) (now border) × Room (now x) (now cover) ⌝ }
-    ensures { λ _. ⌜ Holds borderRow (now (x .entry)) (now (border .exit)) × Holds coverRow (now (x .entry)) (now (cover .exit)) ⌝ }
-{
-    border::rows(x, border);
-    cover::rows(x, border, cover);
-}
+ghost use Rattle.words.proofs.Weighs.{heaviestRow};
+ghost use Rattle.cover.specs.Tree.{Blank};
 
 // Writes the cover table of x into the first rows of t.
 pub fn cover(x: &[u8], t: &mut [u16])
     requires { ⌜ Room (now x) (now t) ⌝ }
     ensures { λ _. ⌜ now (t .exit) ≡ written (coverRow (now (x .entry))) (length (now (x .entry))) (now (t .entry)) ⌝ }
 {
-    let mut border = [0u16; words::LONGEST];
-    border::rows(x, &mut border);
-    cover::rows(x, &border, t);
+    let mut up = [0u16; words::LONGEST + 1];
+    let mut kids = [0u16; words::LONGEST + 1];
+    border::rows(x, t);
+    cover::rows(x, &mut up, &mut kids, t);
 }
 
-// Writes the enhanced table of x into the first rows of the two tables, and returns the weighed total.
+// Writes the enhanced table of x into the first rows of the two tables, and returns the weighed total. Until then `best` carries the border table, and the
+// tree of the cover table, dead once that is made, leaves its arrays to the last ends and the counts.
 pub fn enhanced(x: &[u8], best: &mut [u16], count: &mut [u16]) -> u32
     requires { ⌜ Room (now x) (now best) × Room (now x) (now count) ⌝ }
     ensures best { λ _. ⌜ now (best .exit) ≡ written (bestRow (now (x .entry))) (length (now (x .entry))) (now (best .entry)) ⌝ }
     ensures count { λ _. ⌜ now (count .exit) ≡ written (countRow (now (x .entry))) (length (now (x .entry))) (now (count .entry)) ⌝ }
     ensures total { λ r. ⌜ r ≡ Words.total eqb (now (x .entry)) ⌝ }
 {
-    let mut border = [0u16; words::LONGEST];
-    let mut cover = [0u16; words::LONGEST];
-    borders_and_covers(x, &mut border, &mut cover);
-    enhanced::rows(x, &border, &cover, best, count)
+    let mut chain = [0u16; words::LONGEST];
+    let mut up = [0u16; words::LONGEST + 1];
+    let mut kids = [0u16; words::LONGEST + 1];
+    bases::borders_and_covers(x, best, &mut chain, &mut up, &mut kids);
+    enhanced::rows(x, &mut chain, &mut up, &mut kids, best, count)
 }
 
 // The length of the best pattern of x; 0 if there is none.
@@ -94,38 +90,24 @@ pub fn covers(x: &[u8], t: &mut [u16]) -> usize
     coverings::list(x, &table, t)
 }
 
+// The chain of weighed borders of x, laid over its cover table; the tree of that table leaves an array to the marks.
+fn chained(x: &[u8], border: &mut [u16], chain: &mut [u16], up: &mut [u16], kids: &mut [u16])
+    requires { ⌜ Room (now x) (now border) × Room (now x) (now chain) × Blank (now x) (now up) (now kids) ⌝ }
+    ensures { λ _. ⌜ Holds heaviestRow (now (x .entry)) (now (chain .exit)) ⌝ }
+{
+    bases::borders_and_covers(x, border, chain, up, kids);
+    chains::rows(x, border, up, chain);
+}
+
 // The weighed list of the whole of x.
 pub fn weighed(x: &[u8]) -> words::Weighed
     requires { ⌜ Judged (length (now x)) ⌝ }
     ensures { λ r. ⌜ r ≡ listed 0 (Words.weighed eqb (now (x .entry)) (length (now (x .entry)))) (Words.limit (length (now (x .entry)))) ⌝ }
 {
     let mut border = [0u16; words::LONGEST];
-    let mut cover = [0u16; words::LONGEST];
     let mut chain = [0u16; words::LONGEST];
-    borders_and_covers(x, &mut border, &mut cover);
-    chains::rows(x, &border, &cover, &mut chain);
+    let mut up = [0u16; words::LONGEST + 1];
+    let mut kids = [0u16; words::LONGEST + 1];
+    chained(x, &mut border, &mut chain, &mut up, &mut kids);
     weighing::list(x, &chain)
-}
-
-// Writes all five columns of x into the first rows of the lent tables, each made once from those before it, and returns the weighed total.
-pub fn columns(
-    x: &[u8],
-    border: &mut [u16],
-    prefix: &mut [u16],
-    cover: &mut [u16],
-    best: &mut [u16],
-    count: &mut [u16],
-) -> u32
-    requires { ⌜ Room (now x) (now border) × Room (now x) (now prefix) × Room (now x) (now cover) × Room (now x) (now best) × Room (now x) (now count) ⌝ }
-    ensures border { λ _. ⌜ now (border .exit) ≡ written (borderRow (now (x .entry))) (length (now (x .entry))) (now (border .entry)) ⌝ }
-    ensures prefix { λ _. ⌜ now (prefix .exit) ≡ written (prefixRow (now (x .entry))) (length (now (x .entry))) (now (prefix .entry)) ⌝ }
-    ensures cover { λ _. ⌜ now (cover .exit) ≡ written (coverRow (now (x .entry))) (length (now (x .entry))) (now (cover .entry)) ⌝ }
-    ensures best { λ _. ⌜ now (best .exit) ≡ written (bestRow (now (x .entry))) (length (now (x .entry))) (now (best .entry)) ⌝ }
-    ensures count { λ _. ⌜ now (count .exit) ≡ written (countRow (now (x .entry))) (length (now (x .entry))) (now (count .entry)) ⌝ }
-    ensures total { λ r. ⌜ r ≡ Words.total eqb (now (x .entry)) ⌝ }
-{
-    border::rows(x, border);
-    prefix::rows(x, prefix);
-    cover::rows(x, border, cover);
-    enhanced::rows(x, border, cover, best, count)
 }

@@ -1,6 +1,6 @@
 -- What each turn of the loop and the two calls come to, on plain lists and numbers. Assumes nothing.
 use mathlib.Core.Bool.{Bool, true, false}
-use mathlib.Core.Path.{_≡_, sym, ap, _∙_}
+use mathlib.Core.Path.{_≡_, refl, sym, ap, _∙_}
 use mathlib.Core.List.{List}
 use mathlib.Core.Logic.{⊎-elim}
 use Prim.Native.Nat.{ℕ, _+_, _≤_, _<_}
@@ -9,9 +9,9 @@ use lib.Dec.{eqb}
 use lib.ListN.{length, getD, set}
 use lib.Seq.{set-getD}
 use Rattle.words.specs.Words.{covered}
-use Rattle.words.specs.Tables.{Column, bestRow, countRow, written}
+use Rattle.words.specs.Tables.{bestRow, countRow}
 use Rattle.words.specs.Refusals.{longest}
-use Rattle.words.proofs.Tables.{Room, Holds, Rows, rows-more, length-written, written-stays, written-again}
+use Rattle.words.proofs.Tables.{Holds, Rows, rows-more, rows-under}
 use Rattle.words.proofs.Occurrences.{eqb-refl}
 use Rattle.words.proofs.Counts.{covered-le}
 use Rattle.words.proofs.Bests.{best-best}
@@ -29,16 +29,12 @@ pub record Left (x : List ℕ) (r : ℕ) (f : Found) : Type 0 where
 pub left-start : (x : List ℕ) → Left x 0 (record { len = 0; count = 0 })
 left-start x = record { cover = repeats-zero eqb x 0 (covered eqb x 0) (omega arith) }
 
--- a row that is not written yet is still that of the enhanced table
-pub row-of : (f g : Column) {x t₀ t : List ℕ} {r : ℕ} → Holds f x t₀ → Rows g x t₀ t r → r < length x → getD t r 0 ≡ f x r
-row-of f g {x} {t₀} {t} {r} h w l = ap (λ (y : List ℕ). getD y r 0) (w .made) ∙ written-stays (g x) r t₀ r (omega arith) ∙ h .rows r l
-
 module _ {x b₀ b c₀ c : List ℕ} {r : ℕ} (hb : Holds bestRow x b₀) (hc : Holds countRow x c₀) (wb : Rows leftCoverRow x b₀ b r) (wc : Rows leftCountRow x c₀ c r) (l : r < length x) where
   pub next-left : {a g : Found} → Left x r a → Better (record { len = getD b r 0; count = getD c r 0 }) a g → Left x (r + 1) g
   next-left {a} {g} s o =
       let t = best-best eqb x (r + 1) in
-      let n = row-of bestRow leftCoverRow hb wb l in
-      let k = row-of countRow leftCountRow hc wc l in
+      let n = rows-under leftCoverRow bestRow refl wb hb l in
+      let k = rows-under leftCountRow countRow refl wc hc l in
       ⊎-elim
       (λ w. rw (w .0) (record { cover = rw (n, k) (left-moves eqb x eqb-refl (s .cover) t (rw (n, k) at (w .1))) }))
       (λ w. rw (w .0) (record { cover = left-stays eqb x eqb-refl (s .cover) t (rw (n, k) at (w .1)) }))
@@ -81,11 +77,3 @@ module _ (x : List ℕ) (r : ℕ) {g : Found} (s : Left x (r + 1) g) where
 
   pub count-more : {c₀ c u : List ℕ} → Rows leftCountRow x c₀ c r → r < length x → u ≡ set c r (g .count) → Rows leftCountRow x c₀ u (r + 1)
   count-more w h e = rw e (rows-more w h count-row)
-
--- ---- `rows`: a table that is written as the one column, then as the other
-
-pub still-room : (f : Column) {x t s : List ℕ} → Room x t → s ≡ written (f x) (length x) t → Room x s
-still-room f {x} {t} h e = record { most = h .most; room = omega (arith, ap length e, length-written (f x) (length x) t (h .room), h .room) }
-
-pub over : (f g : Column) (x t : List ℕ) {s u : List ℕ} → s ≡ written (f x) (length x) t → u ≡ written (g x) (length x) s → u ≡ written (g x) (length x) t
-over f g x t e d = d ∙ ap (written (g x) (length x)) e ∙ written-again (f x) (g x) (length x) t

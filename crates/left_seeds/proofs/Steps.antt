@@ -1,17 +1,16 @@
 -- What each row and the columns come to, on plain lists and numbers. Assumes nothing.
-use mathlib.Core.Path.{_≡_, refl, ap}
+use mathlib.Core.Path.{_≡_, _∙_}
 use mathlib.Core.List.{List}
 use mathlib.Core.Logic.{⊎-elim}
 use Prim.Native.Nat.{ℕ, _+_, _≤_, _<_}
 use native.Mathlib.Omega.{arith}
 use lib.Dec.{eqb}
-use lib.ListN.{length, set}
+use lib.ListN.{length, getD}
 use mir.Syntax.{w16}
 use mir.Val.{Fits}
 use Rattle.words.specs.Tables.{Column, borderRow, written}
 use Rattle.words.specs.Refusals.{longest}
-use Rattle.words.proofs.Tables.{Room, Holds, Filled, Rows, rows-more, written-holds}
-use Rattle.words.proofs.Weighs.{heaviestRow, heaviest-lt}
+use Rattle.words.proofs.Tables.{Room, Holds, written-holds}
 use Rattle.repeats.specs.Repeats.{leftSeedRow, seedCountRow}
 use Rattle.repeats.proofs.Seeds.{reached-le, seed-seed, seed-one}
 use Rattle.candidates.specs.Candidates.{bareRow, fallRow}
@@ -20,20 +19,10 @@ use Rattle.standings.specs.Standings.{Columns, Stands}
 
 -- ---- `row`
 
-module _ {x v : List ℕ} {j : ℕ} (k : Filled heaviestRow x v j) {c t f : List ℕ} (l : Columns x c t f) {w : ℕ} (e : w ≡ heaviestRow x j) where
-  pub chain-fits : Fits w16 w
-  chain-fits = omega (arith, e, heaviest-lt x (j + 1) (omega arith), k .inside, l .bordered .most)
-
-  pub chain-in : j < length v
-  chain-in = omega (arith, k .inside, k .room)
-
-pub chain-set : (v : List ℕ) (j : ℕ) {w u : ℕ} → w ≡ u → set v j w ≡ set v j u
-chain-set v j e = ap (set v j) e
+pub row-border : {x c t f : List ℕ} {j b : ℕ} → b ≡ getD c j 0 → Columns x c t f → j < length x → b ≡ borderRow x j
+row-border e l h = e ∙ l .bordered .borders .rows _ h
 
 -- ---- `judge`
-
-pub chain-more : {x v₀ v u : List ℕ} {j : ℕ} → Rows heaviestRow x v₀ v j → j < length x → u ≡ set v j (heaviestRow x j) → Rows heaviestRow x v₀ u (j + 1)
-chain-more w h e = rw e (rows-more w h refl)
 
 module _ (x : List ℕ) (j : ℕ) {s : Standing} (w : Stands x (j + 1) s) where
   is-row : (s .seed .len ≡ leftSeedRow x j) × (s .seed .count ≡ seedCountRow x j)

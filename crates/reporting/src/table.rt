@@ -68,7 +68,7 @@ pub fn put(x: &[u8], text: &mut [u8]) -> usize
     let mut cover = [0u16; words::LONGEST];
     let mut best = [0u16; words::LONGEST];
     let mut count = [0u16; words::LONGEST];
-    let total = judged::columns(
+    let total = five_columns::rows(
         x,
         &mut border,
         &mut prefix,

@@ -17,8 +17,8 @@ use Rattle.words.proofs.Occurrences.{eqb-refl}
 use Rattle.words.proofs.Borders.{Border, border-lt, border-border, border-most}
 use Rattle.words.proofs.Bests.{Nonempty, best-best}
 use Rattle.words.proofs.Counts.{covered-le}
-use Rattle.enhanced.specs.declared.Pick.{Pick}
-use Rattle.enhanced.specs.Tallies.{Tally, Tallies, Judgement}
+use Rattle.tallies.specs.declared.Pick.{Pick}
+use Rattle.tallies.specs.Tallies.{Tally, Tallies, Judgement}
 use Rattle.repeats.specs.declared.Found.{Found}
 use Rattle.repeats.specs.Better.{Better}
 use Rattle.repeats.specs.Repeats.{reached}
@@ -185,7 +185,7 @@ module _ {x c t f : List ℕ} (h : Columns x c t f) {j : ℕ} {left : Found} {fa
 pub stand-in : {x c t f : List ℕ} {j : ℕ} → Columns x c t f → j < length x → j < length c
 stand-in h l = omega (arith, h .bordered .borders .room)
 
-pub ended : {x : List ℕ} {j : ℕ} {p : Pick} → j < length x → Judgement x j p → Ended x j (record { len = p .best; count = p .count })
+pub ended : {x : List ℕ} {j : ℕ} {p : Pick} → j < length x → Judgement x j 0 p → Ended x j (record { len = p .best; count = p .count })
 ended {x} {j} h g = record { inside = h; best = rw (g .best, g .count) (best-best eqb x (j + 1)) }
 
 module _ {x : List ℕ} {j : ℕ} {s : Standing} {b : Found} (w : Stands x j s) (e : Ended x j b) where

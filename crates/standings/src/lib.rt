@@ -3,12 +3,12 @@
 ghost use mathlib.Core.Path.{_≡_};
 ghost use Prim.Native.Nat.{_+_, _≤_, _<_, max};
 ghost use lib.ListN.{length};
-ghost use Rattle.enhanced.specs.Tallies.{Tallies, Judgement};
+ghost use Rattle.tallies.specs.Tallies.{Tallies, Judgement};
 ghost use Rattle.candidates.specs.Candidates.{Sown};
 ghost use Rattle.standings.specs.Standings.{Bordered, Columns, Goes, Ends, Turns, Stands, Ended, After, noStanding};
 use candidates::Seed;
-use enhanced::Pick;
 use repeats::Found;
+use tallies::Pick;
 
 // How a prefix stands: its left seed, its left cover, and the longest prefix that repeats in it.
 pub struct Standing {
@@ -154,7 +154,7 @@ pub fn stand(
     was: Standing,
     p: Pick,
 ) -> Standing
-    requires { ⌜ Columns (now x) (now border) (now bare) (now fall) × Tallies (now x) (now last) (now held) (j + 1) × Stands (now x) j was × Judgement (now x) j p × (j < length (now x)) ⌝ }
+    requires { ⌜ Columns (now x) (now border) (now bare) (now fall) × Tallies (now x) (now last) (now held) (j + 1) × Stands (now x) j was × Judgement (now x) j 0 p × (j < length (now x)) ⌝ }
     ensures { λ r. ⌜ Stands (now (x .entry)) (j + 1) r ⌝ }
 {
     let b = Found {

@@ -1,12 +1,16 @@
 // Floor 2, on top: what a program says of a whole log, every table made once.
 ghost use mathlib.Core.Path.{_≡_};
 ghost use mathlib.Core.List.{_++_};
-ghost use Prim.Native.Nat.{_<_};
+ghost use Prim.Native.Nat.{_≤_, _<_};
 ghost use lib.Dec.{eqb};
 ghost use lib.ListN.{length, drop};
 ghost use Rattle.words.specs.Words.{coverList};
-ghost use Rattle.words.proofs.Tables.{Room};
-ghost use Rattle.summary.specs.Whole.{summaryOf, Work, Made};
+ghost use Rattle.words.specs.Tables.{borderRow, coverRow};
+ghost use Rattle.words.specs.Refusals.{longest};
+ghost use Rattle.words.proofs.Tables.{Room, Holds};
+ghost use Rattle.cover.specs.Tree.{Blank};
+ghost use Rattle.tallies.specs.Tallies.{Work};
+ghost use Rattle.summary.specs.Whole.{outlineOf, summaryOf, Lent, Made};
 
 // The normal form, Best and Count of the whole log, how many covers it has, and its weighed list.
 pub struct Summary {
@@ -17,43 +21,89 @@ pub struct Summary {
     pub weighed: words::Weighed,
 }
 
-// Makes the tables, each from those before it.
-fn make(
+// Of that, what the border and the cover table say.
+pub struct Outline {
+    pub normal: words::Part,
+    pub covers: usize,
+}
+
+// Reads it off them, and writes the covers, rising, into the first entries of the lent table.
+fn read_bases(x: &[u8], border: &[u16], cover: &[u16], covers: &mut [u16]) -> Outline
+    requires { ⌜ Holds borderRow (now x) (now border) × Holds coverRow (now x) (now cover) × Room (now x) (now covers) × (0 < length (now x)) ⌝ }
+    ensures whole { λ r. ⌜ r ≡ outlineOf (now (x .entry)) ⌝ }
+    ensures table { λ _. ⌜ now (covers .exit) ≡ coverList eqb (now (x .entry)) ++ drop (length (coverList eqb (now (x .entry)))) (now (covers .entry)) ⌝ }
+{
+    Outline {
+        normal: parts::normal(x, border, x.len()),
+        covers: coverings::list(x, cover, covers),
+    }
+}
+
+// Makes the two tables, with two arrays to work in, and reads it off them.
+fn begin(
     x: &[u8],
     border: &mut [u16],
     cover: &mut [u16],
+    up: &mut [u16],
+    kids: &mut [u16],
+    covers: &mut [u16],
+) -> Outline
+    requires { ⌜ Room (now x) (now border) × Room (now x) (now cover) × Blank (now x) (now up) (now kids) × Room (now x) (now covers) × (0 < length (now x)) ⌝ }
+    ensures whole { λ r. ⌜ r ≡ outlineOf (now (x .entry)) ⌝ }
+    ensures made { λ _. ⌜ Holds borderRow (now (x .entry)) (now (border .exit)) × Holds coverRow (now (x .entry)) (now (cover .exit)) ⌝ }
+    ensures table { λ _. ⌜ now (covers .exit) ≡ coverList eqb (now (x .entry)) ++ drop (length (coverList eqb (now (x .entry)))) (now (covers .entry)) ⌝ }
+{
+    bases::borders_and_covers(x, border, cover, up, kids);
+    read_bases(x, border, cover, covers)
+}
+
+// Lays Best over the border table and the chain over the cover table, and makes Count.
+fn lay(
+    x: &[u8],
     best: &mut [u16],
     count: &mut [u16],
     chain: &mut [u16],
+    last: &mut [u16],
+    held: &mut [u16],
 )
-    requires { ⌜ Work (now x) (now border) (now cover) (now best) (now count) (now chain) ⌝ }
-    ensures { λ _. ⌜ Made (now (x .entry)) (now (border .exit)) (now (cover .exit)) (now (best .exit)) (now (count .exit)) (now (chain .exit)) ⌝ }
+    requires { ⌜ Work (now x) (now chain) (now last) (now held) (now best) (now count) × Holds borderRow (now x) (now best) ⌝ }
+    ensures { λ _. ⌜ Made (now (x .entry)) (now (best .exit)) (now (count .exit)) (now (chain .exit)) ⌝ }
 {
-    judged::borders_and_covers(x, border, cover);
-    enhanced::rows(x, border, cover, best, count);
-    chains::rows(x, border, cover, chain);
+    enhanced::rows(x, chain, last, held, best, count);
 }
 
-// Reads off the tables what they say of the whole log.
-fn read(
+// Makes all tables. The first two are read before they are laid over.
+fn make(
     x: &[u8],
-    border: &[u16],
-    cover: &[u16],
-    best: &[u16],
-    count: &[u16],
-    chain: &[u16],
+    best: &mut [u16],
+    count: &mut [u16],
+    chain: &mut [u16],
+    up: &mut [u16],
+    kids: &mut [u16],
     covers: &mut [u16],
-) -> Summary
-    requires { ⌜ Made (now x) (now border) (now cover) (now best) (now count) (now chain) × Room (now x) (now covers) × (0 < length (now x)) ⌝ }
-    ensures whole { λ r. ⌜ r ≡ summaryOf (now (x .entry)) ⌝ }
+) -> Outline
+    requires { ⌜ Lent (now x) (now best) (now count) (now chain) (now up) (now kids) (now covers) ⌝ }
+    ensures whole { λ r. ⌜ r ≡ outlineOf (now (x .entry)) ⌝ }
+    ensures made { λ _. ⌜ Made (now (x .entry)) (now (best .exit)) (now (count .exit)) (now (chain .exit)) ⌝ }
     ensures table { λ _. ⌜ now (covers .exit) ≡ coverList eqb (now (x .entry)) ++ drop (length (coverList eqb (now (x .entry)))) (now (covers .entry)) ⌝ }
 {
+    let first = begin(x, best, chain, up, kids, covers);
+    lay(x, best, count, chain, up, kids);
+    first
+}
+
+// Reads off the last rows and the chain what is left to say.
+fn read_rest(x: &[u8], best: &[u16], count: &[u16], chain: &[u16], first: Outline) -> Summary
+    requires { ⌜ Made (now x) (now best) (now count) (now chain) × (first ≡ outlineOf (now x)) × (0 < length (now x)) × (length (now x) ≤ longest) ⌝ }
+    ensures { λ r. ⌜ r ≡ summaryOf (now (x .entry)) ⌝ }
+{
     let last = x.len() - 1;
+    let normal = first.normal;
     Summary {
-        normal: parts::normal(x, border, x.len()),
+        normal: normal,
         best: best[last],
         count: count[last],
-        covers: coverings::list(x, cover, covers),
+        covers: first.covers,
         weighed: weighing::list(x, chain),
     }
 }
@@ -64,18 +114,19 @@ pub fn of(x: &[u8], covers: &mut [u16]) -> Summary
     ensures whole { λ r. ⌜ r ≡ summaryOf (now (x .entry)) ⌝ }
     ensures table { λ _. ⌜ now (covers .exit) ≡ coverList eqb (now (x .entry)) ++ drop (length (coverList eqb (now (x .entry)))) (now (covers .entry)) ⌝ }
 {
-    let mut border = [0u16; words::LONGEST];
-    let mut cover = [0u16; words::LONGEST];
     let mut best = [0u16; words::LONGEST];
     let mut count = [0u16; words::LONGEST];
     let mut chain = [0u16; words::LONGEST];
-    make(
+    let mut up = [0u16; words::LONGEST + 1];
+    let mut kids = [0u16; words::LONGEST + 1];
+    let first = make(
         x,
-        &mut border,
-        &mut cover,
         &mut best,
         &mut count,
         &mut chain,
+        &mut up,
+        &mut kids,
+        covers,
     );
-    read(x, &border, &cover, &best, &count, &chain, covers)
+    read_rest(x, &best, &count, &chain, first)
 }

@@ -25,7 +25,7 @@ pub fn rows(
     ensures total { λ r. ⌜ r ≡ Words.total eqb (window a m (now (x .entry))) ⌝ }
 {
     let e = a + m;
-    judged::columns(
+    five_columns::rows(
         &x[a..e],
         &mut border[a..e],
         &mut prefix[a..e],

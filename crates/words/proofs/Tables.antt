@@ -88,6 +88,16 @@ pub written-again : (f g : ℕ → ℕ) (n : ℕ) (t : List ℕ) → written g n
 unfolding written
 written-again f g n t = ap (λ (y : List ℕ). tabulate g n ++ y) (drop-at (tabulate f n) (drop n t) n (length-tabulate f n))
 
+-- written from equal rows
+tabulate-same : (f g : ℕ → ℕ) (n : ℕ) → ((r : ℕ) → r < n → f r ≡ g r) → tabulate f n ≡ tabulate g n
+unfolding tabulate
+tabulate-same f g zero e = refl
+tabulate-same f g (suc n) e = rw (tabulate-same f g n (λ r h. e r (omega arith)), e n (omega arith))
+
+pub written-same : (f g : ℕ → ℕ) (n : ℕ) (t : List ℕ) → ((r : ℕ) → r < n → f r ≡ g r) → written f n t ≡ written g n t
+unfolding written
+written-same f g n t e = ap (λ (y : List ℕ). y ++ drop n t) (tabulate-same f g n e)
+
 -- the window: its length and its readings
 module _ (a m : ℕ) (x : List ℕ) (fits : a + m ≤ length x) where
   pub length-window : length (window a m x) ≡ m
@@ -176,3 +186,16 @@ module _ {f : Column} {x t₀ t : List ℕ} {r : ℕ} (w : Rows f x t₀ t r) wh
 
   pub rows-done : length x ≤ r → t ≡ written (f x) (length x) t₀
   rows-done h = w .made ∙ ap (λ (k : ℕ). written (f x) k t₀) (omega (arith, w .within))
+
+-- ---- two columns in one table: t held the column g, and f is laid over it from the front
+
+-- row r is the next to be laid over: it is still that of g
+pub rows-under : (f g : Column) {x t₀ t : List ℕ} {r v : ℕ} → v ≡ getD t r 0 → Rows f x t₀ t r → Holds g x t₀ → r < length x → v ≡ g x r
+rows-under f g {x} {t₀} {t} {r} e w h l = e ∙ ap (λ (y : List ℕ). getD y r 0) (w .made) ∙ written-stays (f x) r t₀ r (omega arith) ∙ h .rows r l
+
+-- the whole of g, then the whole of f: there is room as before, and of g nothing is left
+pub still-room : (g : Column) {x t s : List ℕ} → Room x t → s ≡ written (g x) (length x) t → Room x s
+still-room g {x} {t} h e = record { most = h .most; room = omega (arith, ap length e, length-written (g x) (length x) t (h .room), h .room) }
+
+pub written-over-all : (g f : Column) (x t : List ℕ) {s u : List ℕ} → s ≡ written (g x) (length x) t → u ≡ written (f x) (length x) s → u ≡ written (f x) (length x) t
+written-over-all g f x t e d = d ∙ ap (written (f x) (length x)) e ∙ written-again (g x) (f x) (length x) t

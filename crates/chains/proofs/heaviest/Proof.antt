@@ -1,6 +1,6 @@
 -- `chains::heaviest` meets its contract. Assumes nothing.
 use borrow.Author.Needs.{needs}
-use Rattle.chains.proofs.Steps.{no-border, in-cover, in-chain, bare-border, covered-border}
+use Rattle.chains.proofs.Steps.{no-border, in-marks, in-chain, marked-border, covered-border}
 use Rattle.chains.proofs.heaviest.Statement.{statement}
 use Rattle.chains.proofs.heaviest.Tie as tie
 
@@ -8,14 +8,11 @@ pub heaviest-spec : {M : Type 1} → statement M
 heaviest-spec =
     tie.close
     (tie.spec
-    (λ c. search needs)
-    (λ c. search needs)
-    (λ c κs. search needs)
     (λ c. search no-border)
     (λ c. search needs)
-    (λ c. search (needs, in-cover))
-    (λ c. search in-cover)
-    (λ c. search bare-border)
+    (λ c. search (needs, in-marks))
+    (λ c. search in-marks)
+    (λ c. search marked-border)
     (λ c. search needs)
     (λ c. search (needs, in-chain))
     (λ c. search in-chain)

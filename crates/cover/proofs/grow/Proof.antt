@@ -1,4 +1,4 @@
--- `cover::grow` meets its contract. The loop's invariant: t is t₀ with its first j rows written, up and kids are the tree of these lengths, and its window
+-- `cover::grow` meets its contract. The loop's invariant: the first j rows of t are covers, the others still borders, up and kids are the tree of these lengths, and its window
 -- starts no later than that of the row to come. The measure is what is left of x. Assumes nothing.
 use mathlib.Core.Path.{_≡_}
 use Prim.Native.Nat.{_≤_, _+_, _-_}
@@ -13,11 +13,11 @@ use Rattle.cover.proofs.grow.Statement.{statement}
 use Rattle.cover.proofs.grow.Tie as tie
 
 abbrev Inv-loop : tie.InvT-loop
-Inv-loop x border up₀ kids₀ t₀ period₀ j₀ up kids t period j =
+Inv-loop x up₀ kids₀ t₀ period₀ j₀ up kids t period j =
     Rows coverRow x t₀ t j × Forest x up kids period j 0 × (period ≤ j + 1 - borderRow x j) × (length up ≡ length up₀) × (length kids ≡ length kids₀)
 
 abbrev μ-loop : tie.MeasureT-loop
-μ-loop x border up₀ kids₀ t₀ period₀ j₀ up kids t period j = length x - j
+μ-loop x up₀ kids₀ t₀ period₀ j₀ up kids t period j = length x - j
 
 pub grow-spec : {M : Type 1} → statement M
 grow-spec =
@@ -27,7 +27,7 @@ grow-spec =
     μ-loop
     (λ c. search (needs, rows-none, grow-first, window-first))
     (λ c. search needs)
-    (λ c. search needs)
+    (λ c. search rows-inside)
     (λ c κs. search needs)
     (λ c. search needs)
     (λ c. search (needs, grow-below))

@@ -1,6 +1,6 @@
 -- `judged::best` meets its contract. Assumes nothing.
 use borrow.Author.Needs.{needs}
-use Rattle.judged.proofs.Work.{last-best}
+use Rattle.judged.proofs.Steps.{last-best}
 use Rattle.judged.proofs.best.Statement.{statement}
 use Rattle.judged.proofs.best.Tie as tie
 

@@ -1,7 +1,8 @@
 -- `judged::cover` meets its contract. Assumes nothing.
 use borrow.Author.Needs.{needs}
-use Rattle.words.specs.Tables.{borderRow}
-use Rattle.judged.proofs.Work.{work-holds}
+use Rattle.words.specs.Tables.{borderRow, coverRow}
+use Rattle.words.proofs.Tables.{written-holds, written-over-all}
+use Rattle.bases.proofs.Work.{work-blank}
 use Rattle.judged.proofs.cover.Statement.{statement}
 use Rattle.judged.proofs.cover.Tie as tie
 
@@ -9,9 +10,9 @@ pub cover-spec : {M : Type 1} → statement M
 cover-spec =
     tie.close
     (tie.spec
-    (λ c. search needs)
     (λ c κs. search needs)
     (λ c. search needs)
-    (λ c κs. (search needs, search (work-holds borderRow)))
     (λ c. search needs)
-    (λ c. search needs))
+    (λ c κs. (search (written-holds borderRow), search needs, search work-blank))
+    (λ c. search needs)
+    (λ c. search (written-over-all borderRow coverRow)))

@@ -1,7 +1,7 @@
 -- `judged::covered_by` meets its contract. Assumes nothing.
 use borrow.Author.Needs.{needs}
 use Rattle.words.specs.Tables.{prefixRow}
-use Rattle.judged.proofs.Work.{work-holds}
+use Rattle.bases.proofs.Work.{work-holds}
 use Rattle.judged.proofs.covered_by.Statement.{statement}
 use Rattle.judged.proofs.covered_by.Tie as tie
 

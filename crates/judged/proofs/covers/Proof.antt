@@ -1,7 +1,7 @@
 -- `judged::covers` meets its contract. Assumes nothing.
 use borrow.Author.Needs.{needs}
 use Rattle.words.specs.Tables.{coverRow}
-use Rattle.judged.proofs.Work.{work-holds}
+use Rattle.bases.proofs.Work.{work-holds}
 use Rattle.judged.proofs.covers.Statement.{statement}
 use Rattle.judged.proofs.covers.Tie as tie
 

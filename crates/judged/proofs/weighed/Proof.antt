@@ -1,7 +1,6 @@
 -- `judged::weighed` meets its contract. Assumes nothing.
 use borrow.Author.Needs.{needs}
-use Rattle.words.proofs.Weighs.{heaviestRow}
-use Rattle.judged.proofs.Work.{work-holds}
+use Rattle.bases.proofs.Work.{work-blank}
 use Rattle.judged.proofs.weighed.Statement.{statement}
 use Rattle.judged.proofs.weighed.Tie as tie
 
@@ -11,11 +10,9 @@ weighed-spec =
     (tie.spec
     (λ c. search needs)
     (λ c. search needs)
+    (λ c. search needs)
+    (λ c. search needs)
+    (λ c κs. (search needs, search needs, search work-blank))
+    (λ c. search needs)
     (λ c κs. search needs)
-    (λ c. search needs)
-    (λ c. search needs)
-    (λ c. search needs)
-    (λ c κs. search needs)
-    (λ c. search needs)
-    (λ c κs. (search (work-holds heaviestRow), search needs, search needs))
     (λ c. search needs))

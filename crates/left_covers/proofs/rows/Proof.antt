@@ -1,9 +1,8 @@
 -- `left_covers::rows` meets its contract. Assumes nothing.
 use borrow.Author.Needs.{needs}
 use Rattle.words.specs.Tables.{bestRow, countRow}
-use Rattle.words.proofs.Tables.{written-holds}
+use Rattle.words.proofs.Tables.{written-holds, still-room, written-over-all}
 use Rattle.repeats.specs.Repeats.{leftCoverRow, leftCountRow}
-use Rattle.left_covers.proofs.Steps.{still-room, over}
 use Rattle.left_covers.proofs.rows.Statement.{statement}
 use Rattle.left_covers.proofs.rows.Tie as tie
 
@@ -15,4 +14,4 @@ rows-spec =
     (λ c κs. (search (still-room bestRow), search (still-room countRow), search (written-holds bestRow), search (written-holds countRow)))
     (λ c. search needs)
     (λ c. search needs)
-    (λ c. (search (over bestRow leftCoverRow), search (over countRow leftCountRow))))
+    (λ c. (search (written-over-all bestRow leftCoverRow), search (written-over-all countRow leftCountRow))))

@@ -10,8 +10,9 @@ columns-spec =
     tie.close
     (tie.spec
     (λ c κs. search needs)
-    (λ c κs. (search needs, search (room-holds borderRow)))
     (λ c κs. (search needs, search needs, search (room-holds borderRow), search (room-holds coverRow)))
+    (λ c. search needs)
+    (λ c. search needs)
     (λ c. search needs)
     (λ c. search needs)
     (λ c. search needs)

@@ -1,4 +1,4 @@
--- `left_seeds::judge` meets its contract. The loop's invariant: the chain and both tables have their first j rows written, last and held have the tallies
+-- `left_seeds::judge` meets its contract. The loop's invariant: below j both tables have their rows and `chain` the chain's, from j on `chain` has still covers; XX first j rows written, last and held have the tallies
 -- of the first j prefixes, and s is how the first j readings stand. The measure is what is left of x. Assumes nothing.
 use mathlib.Core.Path.{_≡_}
 use Prim.Native.Nat.{_-_, _≤_}
@@ -7,22 +7,22 @@ use lib.ListN.{length}
 use Rattle.words.specs.Refusals.{longest}
 use Rattle.words.proofs.Tables.{Rows, rows-none, rows-length, rows-inside, rows-filled, rows-more, rows-done}
 use Rattle.words.proofs.Weighs.{heaviestRow}
-use Rattle.enhanced.specs.Tallies.{Tallies}
-use Rattle.enhanced.proofs.Steps.{first-tallies}
+use Rattle.tallies.specs.Tallies.{Tallies}
+use Rattle.tallies.proofs.Steps.{first-tallies, still-cover, chain-more}
 use Rattle.repeats.specs.Repeats.{leftSeedRow, seedCountRow}
 use Rattle.standings.specs.Standings.{Stands}
 use Rattle.standings.proofs.Steps.{stands-none}
-use Rattle.left_seeds.proofs.Steps.{chain-more, seed-row, count-row, seed-fits, reach-fits}
+use Rattle.left_seeds.proofs.Steps.{seed-row, count-row, seed-fits, reach-fits}
 use Rattle.left_seeds.proofs.judge.Statement.{statement}
 use Rattle.left_seeds.proofs.judge.Tie as tie
 
 abbrev Inv-loop : tie.InvT-loop
-Inv-loop x border bare fall cover chain₀ last₀ held₀ best₀ count₀ s₀ j₀ chain last held best count s j =
+Inv-loop x border bare fall chain₀ last₀ held₀ best₀ count₀ s₀ j₀ chain last held best count s j =
     Rows heaviestRow x chain₀ chain j × Rows leftSeedRow x best₀ best j × Rows seedCountRow x count₀ count j × Tallies x last held j × Stands x j s
     × (length last ≡ length last₀) × (length held ≡ length held₀) × (length x ≤ longest)
 
 abbrev μ-loop : tie.MeasureT-loop
-μ-loop x border bare fall cover chain₀ last₀ held₀ best₀ count₀ s₀ j₀ chain last held best count s j = length x - j
+μ-loop x border bare fall chain₀ last₀ held₀ best₀ count₀ s₀ j₀ chain last held best count s j = length x - j
 
 pub judge-spec : {M : Type 1} → statement M
 judge-spec =
@@ -32,7 +32,7 @@ judge-spec =
     μ-loop
     (λ c κs. search needs)
     (λ c. (search rows-none, search rows-none, search rows-none, search first-tallies, search stands-none, search needs, search needs, search needs))
-    (λ c κs. (search needs, search needs, search rows-filled, search needs, search needs))
+    (λ c κs. (search needs, search rows-filled, search still-cover, search needs, search needs))
     (λ c. search (seed-fits, reach-fits))
     (λ c. search needs)
     (λ c. search rows-inside)

@@ -1,6 +1,6 @@
 -- `left_seeds::row` meets its contract. Assumes nothing.
 use borrow.Author.Needs.{needs}
-use Rattle.left_seeds.proofs.Steps.{chain-fits, chain-in, chain-set}
+use Rattle.left_seeds.proofs.Steps.{row-border}
 use Rattle.left_seeds.proofs.row.Statement.{statement}
 use Rattle.left_seeds.proofs.row.Tie as tie
 
@@ -8,13 +8,12 @@ pub row-spec : {M : Type 1} → statement M
 row-spec =
     tie.close
     (tie.spec
+    (λ c. search needs)
+    (λ c. search needs)
     (λ c κs. search needs)
-    (λ c κs. search needs)
-    (λ c. search chain-fits)
-    (λ c. search needs)
-    (λ c. search chain-in)
-    (λ c κs. search needs)
+    (λ c κs. (search needs, search needs, search needs, search row-border, search needs, search needs))
+    (λ c κs. (search needs, search needs, search needs, search needs, search needs))
     (λ c. search needs)
     (λ c. search needs)
     (λ c. search needs)
-    (λ c. (search chain-set, (search needs, search needs))))
+    (λ c. (search needs, (search needs, search needs))))

@@ -1,5 +1,6 @@
 -- `left_seeds::rows` meets its contract. Assumes nothing.
 use borrow.Author.Needs.{needs}
+use Rattle.bases.proofs.Work.{work-blank}
 use Rattle.left_seeds.proofs.rows.Statement.{statement}
 use Rattle.left_seeds.proofs.rows.Tie as tie
 
@@ -11,8 +12,9 @@ rows-spec =
     (λ c. search needs)
     (λ c. search needs)
     (λ c. search needs)
-    (λ c κs. search needs)
     (λ c. search needs)
+    (λ c. search needs)
+    (λ c κs. (search needs, search needs, search needs, search needs, search work-blank))
     (λ c. search needs)
     (λ c. search needs)
     (λ c. search needs)
@@ -21,7 +23,7 @@ rows-spec =
     (λ c. search needs)
     (λ c κs. (
       search needs,
-      record { most = search needs; borders = search needs; covers = search needs; chains = search needs; lasts = search needs; holds = search needs; bests = search needs; counts = search needs },
+      record { most = search needs; covers = search needs; lasts = search needs; holds = search needs; bests = search needs; counts = search needs },
     ))
     (λ c. search needs)
     (λ c. search needs)

@@ -1,6 +1,6 @@
 -- `left_text::put` meets its contract. Assumes nothing.
 use borrow.Author.Needs.{needs}
-use Rattle.judged.proofs.Work.{work-holds}
+use Rattle.bases.proofs.Work.{work-holds}
 use Rattle.repeats.specs.Repeats.{leftCoverRow, leftCountRow, leftSeedRow, seedCountRow}
 use Rattle.left_text.proofs.put.Statement.{statement}
 use Rattle.left_text.proofs.put.Tie as tie

@@ -1,8 +1,5 @@
 -- `summary::make` meets its contract. Assumes nothing.
 use borrow.Author.Needs.{needs}
-use Rattle.words.specs.Tables.{bestRow, countRow}
-use Rattle.words.proofs.Tables.{written-holds}
-use Rattle.words.proofs.Weighs.{heaviestRow}
 use Rattle.summary.proofs.make.Statement.{statement}
 use Rattle.summary.proofs.make.Tie as tie
 
@@ -11,17 +8,14 @@ make-spec =
     tie.close
     (tie.spec
     (λ c κs. search needs)
-    (λ c κs. search needs)
-    (λ c κs. search needs)
+    (λ c κs. (
+      record { most = search needs; covers = search needs; lasts = search needs; holds = search needs; bests = search needs; counts = search needs },
+      search needs,
+    ))
     (λ c. search needs)
     (λ c. search needs)
     (λ c. search needs)
     (λ c. search needs)
     (λ c. search needs)
-    (λ c. record {
-      borders = search needs;
-      covers = search needs;
-      bests = search (written-holds bestRow);
-      counts = search (written-holds countRow);
-      chains = search (written-holds heaviestRow);
-    }))
+    (λ c. search needs)
+    (λ c. (search needs, (search needs, search needs))))

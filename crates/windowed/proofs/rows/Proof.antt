@@ -5,8 +5,8 @@ use Rattle.windowed.proofs.Middle.{part-room, part-placed, part-total}
 use Rattle.windowed.proofs.rows.Statement.{statement}
 use Rattle.windowed.proofs.rows.Tie as tie
 
-columns-requires : tie.Need-columns-requires
-columns-requires c κs =
+rows-requires : tie.Need-rows-requires
+rows-requires c κs =
     let s = c .before .before .before .before .before .before .before .before .before .before .before .before in
     let p = s .pre in (
       part-room _ _ _ _ (p .most) (p .inside) (p .borders),
@@ -20,7 +20,7 @@ returns : tie.Need-returns
 returns c =
     let k = c .before .before .before .before .before .before .before .before .before .before in
     let p = k .before .before .before .before .before .before .before .before .before .before .before .before .before .pre in
-    let made = k .columns .ensures in (
+    let made = k .rows .ensures in (
       part-placed borderRow _ _ _ _ (p .inside) (p .borders) (made .0),
       (
         part-placed prefixRow _ _ _ _ (p .inside) (p .prefixes) (made .1 .0),
@@ -62,7 +62,7 @@ rows-spec =
     (λ c. search needs)
     (λ c. search needs)
     (λ c. search needs)
-    columns-requires
+    rows-requires
     (λ c. search needs)
     (λ c. search needs)
     (λ c. search needs)

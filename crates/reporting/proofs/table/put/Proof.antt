@@ -1,7 +1,7 @@
 -- `reporting::table::put` meets its contract. Assumes nothing.
 use borrow.Author.Needs.{needs}
 use Rattle.words.specs.Tables.{borderRow, prefixRow, coverRow, bestRow, countRow}
-use Rattle.judged.proofs.Work.{work-holds}
+use Rattle.bases.proofs.Work.{work-holds}
 use Rattle.reporting.proofs.table.put.Statement.{statement}
 use Rattle.reporting.proofs.table.put.Tie as tie
 

@@ -1,0 +1,2 @@
+mod Tallies
+pub mod Steps
