@@ -1,5 +1,5 @@
 #!/usr/bin/env bash
-# Header, example and tests in C. The library is in FINDER_LIB_DIR, else where `rt staticlib cabinet` puts it.
+# Header, example, tests and the stack of every call, in C. The library is in FINDER_LIB_DIR, else where `rt staticlib cabinet` puts it.
 set -euo pipefail
 cd "$(dirname "$0")"
 library=${FINDER_LIB_DIR:-../../target/staticlib}/libcabinet.a
@@ -27,6 +27,7 @@ gcc -std=c99 -O1 -g "${warnings[@]}" -fsanitize=address,undefined -fno-sanitize-
     test_finder.c ../../bench/logs.c "$library" -o "$made/test_finder"
 "$made/test_finder"
 
+# Bound at the start, as in bench/run: the first call of a C library's function must not take more stack than the next.
 gcc -std=gnu11 -O2 -pthread "${warnings[@]}" -Wl,-z,now -I../../include -I../../bench ../../bench/stack.c ../../bench/logs.c "$library" -o "$made/stack_use"
 "$made/stack_use" >/dev/null
 echo "c stack: no call takes more arrays than it may"

@@ -4,7 +4,7 @@ use mathlib.Core.List.{List}
 use Prim.Native.Nat.{ℕ, _≤_}
 use lib.ListN.{length, getD}
 use Rattle.words.specs.Tables.{Column, written}
-use Rattle.words.proofs.Tables.{Room, Holds, Rows, rows-done, written-holds, written-same, written-over-all}
+use Rattle.words.proofs.Tables.{Room, Holds, Rows, rows-done, written-holds, written-same, laid-over}
 use Rattle.bases.specs.Copies.{copyRow}
 
 pub copy-row : (t x : List ℕ) (r : ℕ) → getD t r 0 ≡ copyRow t x r
@@ -23,4 +23,4 @@ module _ (f : Column) (x b : List ℕ) where
 
   -- a column laid over a copy
   pub over-copy : (t : List ℕ) {s u : List ℕ} → s ≡ written (copyRow b x) (length x) t → u ≡ written (f x) (length x) s → u ≡ written (f x) (length x) t
-  over-copy t e d = written-over-all (copyRow b) f x t e d
+  over-copy t e d = laid-over f (copyRow b) x t e d

@@ -36,12 +36,12 @@ pub fn borders_and_covers(
     cover::rows(x, up, kids, cover);
 }
 
-// The border and the cover table of x once more, in tables that will be laid over.
-pub fn copies(x: &[u8], border: &[u16], cover: &[u16], borders: &mut [u16], covers: &mut [u16])
-    requires { ⌜ Holds borderRow (now x) (now border) × Holds coverRow (now x) (now cover) × Room (now x) (now borders) × Room (now x) (now covers) ⌝ }
-    ensures border { λ _. ⌜ now (borders .exit) ≡ written (borderRow (now (x .entry))) (length (now (x .entry))) (now (borders .entry)) ⌝ }
-    ensures cover { λ _. ⌜ now (covers .exit) ≡ written (coverRow (now (x .entry))) (length (now (x .entry))) (now (covers .entry)) ⌝ }
+// The border and the cover table of x once more, in b and c, which will be laid over.
+pub fn copies(x: &[u8], border: &[u16], cover: &[u16], b: &mut [u16], c: &mut [u16])
+    requires { ⌜ Holds borderRow (now x) (now border) × Holds coverRow (now x) (now cover) × Room (now x) (now b) × Room (now x) (now c) ⌝ }
+    ensures border { λ _. ⌜ now (b .exit) ≡ written (borderRow (now (x .entry))) (length (now (x .entry))) (now (b .entry)) ⌝ }
+    ensures cover { λ _. ⌜ now (c .exit) ≡ written (coverRow (now (x .entry))) (length (now (x .entry))) (now (c .entry)) ⌝ }
 {
-    copy(x, border, borders);
-    copy(x, cover, covers);
+    copy(x, border, b);
+    copy(x, cover, c);
 }

@@ -1,15 +1,12 @@
 -- What each way through the border table's functions comes to, on plain lists and numbers. Assumes nothing.
-use mathlib.Core.Path.{_≡_, refl, sym, ap, _∙_}
+use mathlib.Core.Path.{_≡_, refl, ap, _∙_}
 use mathlib.Core.List.{List}
 use Prim.Native.Nat.{ℕ, _+_, _-_, _≤_, _<_}
 use native.Mathlib.Omega.{arith}
 use lib.ListN.{length, getD}
 use lib.Dec.{eqb}
-use mir.Syntax.{w16}
-use mir.Val.{Fits}
 use Rattle.words.specs.Words.{border}
 use Rattle.words.specs.Tables.{borderRow}
-use Rattle.words.specs.Refusals.{longest}
 use Rattle.words.proofs.Tables.{Filled, Room, Rows, rows-first}
 use Rattle.words.proofs.Borders.{Candidate, candidate-first, candidate-next, border-lt, border-one}
 
@@ -34,9 +31,6 @@ module _ {x t : List ℕ} {r : ℕ} (f : Filled borderRow x t r) where
 
     pub chain-falls : b < k
     chain-falls = rw is-row (border-lt eqb x k (omega arith))
-
-pub row-fits : (x : List ℕ) (r : ℕ) {b : ℕ} → b ≡ borderRow x r → r < length x → length x ≤ longest → Fits w16 b
-row-fits x r e h s = omega (arith, border-lt eqb x (r + 1) (omega arith))
 
 -- ---- `fill` and `rows`
 

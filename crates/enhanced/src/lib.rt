@@ -3,10 +3,9 @@ ghost use mathlib.Core.Path.{_≡_};
 ghost use lib.ListN.{length};
 ghost use lib.Dec.{eqb};
 ghost use Rattle.words.specs.Words.{total};
-ghost use Rattle.words.specs.Tables.{borderRow, bestRow, countRow, written};
-ghost use Rattle.words.proofs.Tables.{Holds};
+ghost use Rattle.words.specs.Tables.{borderRow, coverRow, bestRow, countRow, written};
+ghost use Rattle.words.proofs.Tables.{Room, Holds};
 ghost use Rattle.words.proofs.Weighs.{heaviestRow};
-ghost use Rattle.tallies.specs.Tallies.{Work};
 
 // Writes Best and Count of each prefix of x into the first rows of the two tables, and returns the weighed total. `best` comes with the border table and
 // `chain` with the cover table, which is laid over with the chain; what `last` and `held` come with makes no difference.
@@ -18,7 +17,7 @@ pub fn rows(
     best: &mut [u16],
     count: &mut [u16],
 ) -> u32
-    requires { ⌜ Work (now x) (now chain) (now last) (now held) (now best) (now count) × Holds borderRow (now x) (now best) ⌝ }
+    requires { ⌜ Holds borderRow (now x) (now best) × Holds coverRow (now x) (now chain) × Room (now x) (now last) × Room (now x) (now held) × Room (now x) (now count) ⌝ }
     ensures best { λ _. ⌜ now (best .exit) ≡ written (bestRow (now (x .entry))) (length (now (x .entry))) (now (best .entry)) ⌝ }
     ensures count { λ _. ⌜ now (count .exit) ≡ written (countRow (now (x .entry))) (length (now (x .entry))) (now (count .entry)) ⌝ }
     ensures chain { λ _. ⌜ now (chain .exit) ≡ written (heaviestRow (now (x .entry))) (length (now (x .entry))) (now (chain .entry)) ⌝ }

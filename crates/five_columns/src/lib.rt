@@ -7,7 +7,6 @@ ghost use Rattle.words.specs.Tables.{borderRow, prefixRow, coverRow, bestRow, c
 ghost use Rattle.words.proofs.Tables.{Room, Holds};
 ghost use Rattle.words.proofs.Weighs.{heaviestRow};
 ghost use Rattle.cover.specs.Tree.{Blank};
-ghost use Rattle.five_columns.specs.Lent.{Lent};
 
 // Writes Best and Count of x into the first rows of the two tables, from a border and a cover table that stay, with three arrays to work in, and returns the
 // weighed total. Of these `chain` is left with the chain of weighed borders.
@@ -21,7 +20,7 @@ fn weighed_beside(
     last: &mut [u16],
     held: &mut [u16],
 ) -> u32
-    requires { ⌜ Holds borderRow (now x) (now border) × Holds coverRow (now x) (now cover) × Lent (now x) (now best) (now count) (now chain) (now last) (now held) ⌝ }
+    requires { ⌜ Holds borderRow (now x) (now border) × Holds coverRow (now x) (now cover) × Room (now x) (now best) × Room (now x) (now count) × Room (now x) (now chain) × Room (now x) (now last) × Room (now x) (now held) ⌝ }
     ensures best { λ _. ⌜ now (best .exit) ≡ written (bestRow (now (x .entry))) (length (now (x .entry))) (now (best .entry)) ⌝ }
     ensures count { λ _. ⌜ now (count .exit) ≡ written (countRow (now (x .entry))) (length (now (x .entry))) (now (count .entry)) ⌝ }
     ensures chain { λ _. ⌜ now (chain .exit) ≡ written (heaviestRow (now (x .entry))) (length (now (x .entry))) (now (chain .entry)) ⌝ }

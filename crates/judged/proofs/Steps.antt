@@ -8,13 +8,13 @@ use lib.ListN.{length, getD, replicate}
 use Rattle.words.specs.Words.{best}
 use Rattle.words.specs.Tables.{Column, written, bestRow}
 use Rattle.words.specs.Refusals.{longest}
-use Rattle.words.proofs.Tables.{Room, Holds, written-holds, written-over-all}
+use Rattle.words.proofs.Tables.{Room, Holds, written-holds, laid-over}
 use Rattle.words.proofs.Refusals.{Judged}
 use Rattle.bases.proofs.Work.{work-holds}
 
 -- one column laid over another
-pub laid-holds : (g f : Column) (x t : List ℕ) {s u : List ℕ} → Room x t → s ≡ written (g x) (length x) t → u ≡ written (f x) (length x) s → Holds f x u
-laid-holds g f x t h e d = written-holds f x t (h .room) (written-over-all g f x t e d)
+pub laid-holds : (f g : Column) (x t : List ℕ) {s u : List ℕ} → Room x t → s ≡ written (g x) (length x) t → u ≡ written (f x) (length x) s → Holds f x u
+laid-holds f g x t h e d = written-holds f x t (h .room) (laid-over f g x t e d)
 
 -- the last row is that of the whole log
 pub last-best : (x t : List ℕ) {r : ℕ} → r ≡ getD t (length x - 1) 0 → Judged (length x) → t ≡ written (bestRow x) (length x) (replicate longest 0)

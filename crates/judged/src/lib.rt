@@ -23,8 +23,8 @@ pub fn cover(x: &[u8], t: &mut [u16])
     cover::rows(x, &mut up, &mut kids, t);
 }
 
-// Writes the enhanced table of x into the first rows of the two tables, and returns the weighed total. Until then `best` carries the border table, and the
-// tree of the cover table, dead once that is made, leaves its arrays to the last ends and the counts.
+// Writes the enhanced table of x into the first rows of the two tables, and returns the weighed total. `best` carries the border table until Best is laid over
+// it; the tree of the cover table, dead once that is made, leaves its arrays to the last ends and the counts.
 pub fn enhanced(x: &[u8], best: &mut [u16], count: &mut [u16]) -> u32
     requires { ⌜ Room (now x) (now best) × Room (now x) (now count) ⌝ }
     ensures best { λ _. ⌜ now (best .exit) ≡ written (bestRow (now (x .entry))) (length (now (x .entry))) (now (best .entry)) ⌝ }
@@ -90,7 +90,7 @@ pub fn covers(x: &[u8], t: &mut [u16]) -> usize
     coverings::list(x, &table, t)
 }
 
-// The chain of weighed borders of x, laid over its cover table; the tree of that table leaves an array to the marks.
+// The chain of weighed borders of x, laid over its cover table; the tree of that table leaves an array to the flags.
 fn chained(x: &[u8], border: &mut [u16], chain: &mut [u16], up: &mut [u16], kids: &mut [u16])
     requires { ⌜ Room (now x) (now border) × Room (now x) (now chain) × Blank (now x) (now up) (now kids) ⌝ }
     ensures { λ _. ⌜ Holds heaviestRow (now (x .entry)) (now (chain .exit)) ⌝ }

@@ -1,11 +1,11 @@
 -- What each row and the columns come to, on plain lists and numbers. Assumes nothing.
-use mathlib.Core.Path.{_≡_, _∙_}
+use mathlib.Core.Path.{_≡_}
 use mathlib.Core.List.{List}
 use mathlib.Core.Logic.{⊎-elim}
 use Prim.Native.Nat.{ℕ, _+_, _≤_, _<_}
 use native.Mathlib.Omega.{arith}
 use lib.Dec.{eqb}
-use lib.ListN.{length, getD}
+use lib.ListN.{length}
 use mir.Syntax.{w16}
 use mir.Val.{Fits}
 use Rattle.words.specs.Tables.{Column, borderRow, written}
@@ -16,11 +16,6 @@ use Rattle.repeats.proofs.Seeds.{reached-le, seed-seed, seed-one}
 use Rattle.candidates.specs.Candidates.{bareRow, fallRow}
 use Rattle.standings.specs.declared.Standing.{Standing}
 use Rattle.standings.specs.Standings.{Columns, Stands}
-
--- ---- `row`
-
-pub row-border : {x c t f : List ℕ} {j b : ℕ} → b ≡ getD c j 0 → Columns x c t f → j < length x → b ≡ borderRow x j
-row-border e l h = e ∙ l .bordered .borders .rows _ h
 
 -- ---- `judge`
 

@@ -6,7 +6,7 @@ ghost use Rattle.words.specs.Tables.{coverRow, written};
 ghost use Rattle.words.proofs.Tables.{Room, Holds, Filled};
 ghost use Rattle.words.proofs.Weighs.{heaviestRow};
 ghost use Rattle.cover.specs.Tree.{Blank};
-ghost use Rattle.tallies.specs.Tallies.{Tallies, Work};
+ghost use Rattle.tallies.specs.Tallies.{Tallies};
 ghost use Rattle.repeats.specs.Repeats.{leftSeedRow, seedCountRow};
 ghost use Rattle.standings.specs.Standings.{Columns, Stands};
 
@@ -43,7 +43,7 @@ fn judge(
     best: &mut [u16],
     count: &mut [u16],
 )
-    requires { ⌜ Columns (now x) (now border) (now bare) (now fall) × Work (now x) (now chain) (now last) (now held) (now best) (now count) ⌝ }
+    requires { ⌜ Columns (now x) (now border) (now bare) (now fall) × Holds coverRow (now x) (now chain) × Room (now x) (now last) × Room (now x) (now held) × Room (now x) (now best) × Room (now x) (now count) ⌝ }
     ensures best { λ _. ⌜ now (best .exit) ≡ written (leftSeedRow (now (x .entry))) (length (now (x .entry))) (now (best .entry)) ⌝ }
     ensures count { λ _. ⌜ now (count .exit) ≡ written (seedCountRow (now (x .entry))) (length (now (x .entry))) (now (count .entry)) ⌝ }
 {

@@ -1,15 +1,13 @@
 -- What is said of a whole log, but for the entries of its list of covers. Assumes nothing.
 use mathlib.Core.List.{List}
-use Prim.Native.Nat.{ℕ, _≤_, _<_}
+use Prim.Native.Nat.{ℕ}
 use lib.Dec.{eqb}
 use lib.ListN.{length}
 use Rattle.words.specs.Words as Words
 use Rattle.words.specs.Tables.{bestRow, countRow}
-use Rattle.words.specs.Refusals.{longest}
 use Rattle.words.specs.Answers.{listed}
 use Rattle.words.proofs.Tables.{Holds}
 use Rattle.words.proofs.Weighs.{heaviestRow}
-use Rattle.cover.specs.Tree.{Blank}
 use Rattle.summary.specs.declared.Outline.{Outline}
 use Rattle.summary.specs.declared.Summary.{Summary}
 
@@ -26,16 +24,6 @@ summaryOf x =
 
 unfoldable pub outlineOf : List ℕ → Outline
 outlineOf x = record { normal = Words.normal eqb x (length x); covers = length (Words.coverList eqb x) }
-
--- room for the tables of a log and to work in
-pub record Lent (x best count chain up kids covers : List ℕ) : Type 0 where
-  pub some : 0 < length x
-  pub most : length x ≤ longest
-  pub bests : length x ≤ length best
-  pub counts : length x ≤ length count
-  pub chains : length x ≤ length chain
-  pub blank : Blank x up kids
-  pub listed : length x ≤ length covers
 
 -- the tables made
 pub record Made (x best count chain : List ℕ) : Type 0 where

@@ -9,8 +9,7 @@ ghost use Rattle.words.specs.Tables.{borderRow, coverRow};
 ghost use Rattle.words.specs.Refusals.{longest};
 ghost use Rattle.words.proofs.Tables.{Room, Holds};
 ghost use Rattle.cover.specs.Tree.{Blank};
-ghost use Rattle.tallies.specs.Tallies.{Work};
-ghost use Rattle.summary.specs.Whole.{outlineOf, summaryOf, Lent, Made};
+ghost use Rattle.summary.specs.Whole.{outlineOf, summaryOf, Made};
 
 // The normal form, Best and Count of the whole log, how many covers it has, and its weighed list.
 pub struct Summary {
@@ -21,13 +20,13 @@ pub struct Summary {
     pub weighed: words::Weighed,
 }
 
-// Of that, what the border and the cover table say.
+// The part of a summary that the border and the cover table say.
 pub struct Outline {
     pub normal: words::Part,
     pub covers: usize,
 }
 
-// Reads it off them, and writes the covers, rising, into the first entries of the lent table.
+// Reads the outline off the border and the cover table, and writes the covers, rising, into the first entries of the lent table.
 fn read_bases(x: &[u8], border: &[u16], cover: &[u16], covers: &mut [u16]) -> Outline
     requires { ⌜ Holds borderRow (now x) (now border) × Holds coverRow (now x) (now cover) × Room (now x) (now covers) × (0 < length (now x)) ⌝ }
     ensures whole { λ r. ⌜ r ≡ outlineOf (now (x .entry)) ⌝ }
@@ -39,7 +38,7 @@ fn read_bases(x: &[u8], border: &[u16], cover: &[u16], covers: &mut [u16]) -> Ou
     }
 }
 
-// Makes the two tables, with two arrays to work in, and reads it off them.
+// Makes the border and the cover table, with two arrays to work in, and reads the outline off them.
 fn begin(
     x: &[u8],
     border: &mut [u16],
@@ -66,7 +65,7 @@ fn lay(
     last: &mut [u16],
     held: &mut [u16],
 )
-    requires { ⌜ Work (now x) (now chain) (now last) (now held) (now best) (now count) × Holds borderRow (now x) (now best) ⌝ }
+    requires { ⌜ Holds borderRow (now x) (now best) × Holds coverRow (now x) (now chain) × Room (now x) (now last) × Room (now x) (now held) × Room (now x) (now count) ⌝ }
     ensures { λ _. ⌜ Made (now (x .entry)) (now (best .exit)) (now (count .exit)) (now (chain .exit)) ⌝ }
 {
     enhanced::rows(x, chain, last, held, best, count);
@@ -82,7 +81,7 @@ fn make(
     kids: &mut [u16],
     covers: &mut [u16],
 ) -> Outline
-    requires { ⌜ Lent (now x) (now best) (now count) (now chain) (now up) (now kids) (now covers) ⌝ }
+    requires { ⌜ Room (now x) (now best) × Room (now x) (now count) × Room (now x) (now chain) × Blank (now x) (now up) (now kids) × Room (now x) (now covers) × (0 < length (now x)) ⌝ }
     ensures whole { λ r. ⌜ r ≡ outlineOf (now (x .entry)) ⌝ }
     ensures made { λ _. ⌜ Made (now (x .entry)) (now (best .exit)) (now (count .exit)) (now (chain .exit)) ⌝ }
     ensures table { λ _. ⌜ now (covers .exit) ≡ coverList eqb (now (x .entry)) ++ drop (length (coverList eqb (now (x .entry)))) (now (covers .entry)) ⌝ }

@@ -14,15 +14,15 @@ use borrow.Author.Tests.{le-leb, lt-leb}
 use Rattle.words.specs.Words.{covered, used}
 use Rattle.words.specs.Tables.{borderRow, coverRow}
 use Rattle.words.specs.Refusals.{longest}
-use Rattle.words.proofs.Tables.{Holds, Filled, Rows, rows-more, rows-under}
-use Rattle.words.proofs.Borders.{border-lt, border-most}
+use Rattle.words.proofs.Tables.{Room, Holds, Filled, Rows, rows-more, rows-under}
+use Rattle.words.proofs.Borders.{border-most}
 use Rattle.words.proofs.Covers.{Covers, covers-border, cover-covers, cover-lt}
 use Rattle.words.proofs.Counts.{covered-le}
 use Rattle.words.proofs.Weighs.{heaviest, heaviestRow, heaviest-lt, heaviest-empty, rest, rest-first, rest-next, rest-none, used-places}
 use Rattle.words.proofs.Lossless.{Picked, picked-start, picked-next, picked-best, picked-count}
-use Rattle.chains.proofs.Steps.{mark-bare, mark-covered, row-fits}
+use Rattle.chains.proofs.Steps.{flag-bare, flag-covered}
 use Rattle.tallies.specs.declared.Pick.{Pick}
-use Rattle.tallies.specs.Tallies.{mostWeighed, Tallies, Round, Better, Judgement, Work}
+use Rattle.tallies.specs.Tallies.{mostWeighed, Tallies, Round, Better, Judgement}
 use Rattle.tallies.proofs.Tallies.{round-start, round-weighs, round-last, round-held, round-count, round-next, round-done}
 
 -- the entry for the prefix of length q stands at row q - 1
@@ -42,11 +42,11 @@ module _ (b : Pick) (w k : ℕ) where
 
 module _ {x l h : List ℕ} {j : ℕ} (t : Tallies x l h j) (i : j < length x) where
   pub enter-round : (v : ℕ) → v ≡ j + 1 → coverRow x j ≡ 0 → Round x (set l j v) (set h j v) j (heaviestRow x j)
-  enter-round v e z = round-start v (set h j v) t i (e ∙ sym (mark-bare x (j + 1) z)) (rw (length-set h j v) (t .holds))
+  enter-round v e z = round-start v (set h j v) t i (e ∙ sym (flag-bare x (j + 1) z)) (rw (length-set h j v) (t .holds))
       (λ k n. getD-set-other h j k v 0 n) (λ _. getD-set-same h j v 0 (omega (arith, t .holds)) ∙ e)
 
   pub covered-round : (c : ℕ) → c ≡ coverRow x j → (c ≡ 0 → ⊥) → Round x (set l j 0) h j (heaviestRow x j)
-  covered-round c e n = round-start 0 h t i (sym (mark-covered x (j + 1) (λ z. n (e ∙ z)))) (t .holds) (λ k _. refl) (λ z. absurd (n (e ∙ z)))
+  covered-round c e n = round-start 0 h t i (sym (flag-covered x (j + 1) (λ z. n (e ∙ z)))) (t .holds) (λ k _. refl) (λ z. absurd (n (e ∙ z)))
 
 module _ {x l h : List ℕ} {j w : ℕ} (r : Round x l h j w) (p : 0 < w) (e c : ℕ) (el : e ≡ getD l (w - 1) 0) (ec : c ≡ getD h (w - 1) 0) where
   nz : w ≡ 0 → ⊥
@@ -137,10 +137,6 @@ alone-laid x v j b d n e =
 
 -- ---- `row`: the row's own entry of the chain is stored
 
--- so that an edit that stores the border is refused for what it means
-pub border-fits : (x : List ℕ) (j b : ℕ) → b ≡ borderRow x j → j < length x → length x ≤ longest → Fits w16 b
-border-fits x j b e h s = omega (arith, border-lt eqb x (j + 1) (omega arith))
-
 -- the rows before it stay
 pub chain-laid : {x : List ℕ} (v : List ℕ) (j w : ℕ) → Filled heaviestRow x v j → Filled heaviestRow x (set v j w) j
 chain-laid v j w k = record {
@@ -149,20 +145,22 @@ chain-laid v j w k = record {
   rows = λ r l. getD-set-other v j r w 0 (λ z. omega arith) ∙ k .rows r l;
 }
 
-module _ {x v : List ℕ} {j w : ℕ} (k : Filled heaviestRow x v j) (e : w ≡ heaviestRow x j) where
-  pub chain-fits : length x ≤ longest → Fits w16 w
-  chain-fits s = row-fits x j e (k .inside) s
-
-  pub chain-set : set v j w ≡ set v j (heaviestRow x j)
-  chain-set = ap (set v j) e
+module _ (x : List ℕ) (j : ℕ) {w : ℕ} (e : w ≡ heaviestRow x j) where
+  pub chain-set : (v : List ℕ) → set v j w ≡ set v j (heaviestRow x j)
+  chain-set v = ap (set v j) e
 
   pub own-round : {l h : List ℕ} → Round x l h j (heaviestRow x j) → Round x l h j w
   own-round r = rw e r
 
 -- ---- a loop over the rows
 
-pub first-tallies : {x v l h s t : List ℕ} → Work x v l h s t → Tallies x l h 0
-first-tallies r = record { lasts = r .lasts; holds = r .holds; each = λ n h l. absurd (not-suc-le-zero (lt-of-lt-of-le h l)); none = λ n h l. absurd (not-suc-le-zero (lt-of-lt-of-le h l)) }
+pub first-tallies : {x l h : List ℕ} → Room x l → Room x h → Tallies x l h 0
+first-tallies a b = record {
+  lasts = a .room;
+  holds = b .room;
+  each = λ n h l. absurd (not-suc-le-zero (lt-of-lt-of-le h l));
+  none = λ n h l. absurd (not-suc-le-zero (lt-of-lt-of-le h l));
+}
 
 pub chain-more : {x v₀ v u : List ℕ} {j : ℕ} → Rows heaviestRow x v₀ v j → j < length x → u ≡ set v j (heaviestRow x j) → Rows heaviestRow x v₀ u (j + 1)
 chain-more w h e = rw e (rows-more w h refl)

@@ -7,10 +7,9 @@ use Prim.Native.Nat.{ℕ, _+_, _-_, _*_, _≤_, _<_, max}
 use lib.ListN.{length, getD}
 use lib.Dec.{eqb, leb}
 use Rattle.words.specs.Words.{cover, covered, used}
-use Rattle.words.specs.Tables.{coverRow, bestRow, countRow}
+use Rattle.words.specs.Tables.{bestRow, countRow}
 use Rattle.words.specs.Refusals.{longest}
 use Rattle.words.specs.Answers.{weighedPlaces}
-use Rattle.words.proofs.Tables.{Holds}
 use Rattle.words.proofs.Occurrences.{Occurs}
 use Rattle.words.proofs.Weighs.{Weighs}
 use Rattle.tallies.specs.declared.Pick.{Pick}
@@ -56,12 +55,3 @@ pub record Judgement (x : List ℕ) (j t : ℕ) (b : Pick) : Type 0 where
   pub best : b .best ≡ bestRow x j
   pub count : b .count ≡ countRow x j
   pub total : b .total ≡ t + used eqb x (j + 1)
-
--- the cover table, over which the chain is laid, and room in both tables and to work in
-pub record Work (x chain last held best count : List ℕ) : Type 0 where
-  pub most : length x ≤ longest
-  pub covers : Holds coverRow x chain
-  pub lasts : length x ≤ length last
-  pub holds : length x ≤ length held
-  pub bests : length x ≤ length best
-  pub counts : length x ≤ length count

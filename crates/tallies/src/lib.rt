@@ -28,7 +28,7 @@ pub fn grown(w: usize, i: usize, e: usize, k: usize) -> usize
     k + w
 }
 
-// Weighs one border more, w, which covers k positions. Of equals it takes w, the shorter.
+// Weighs one border more, w, which covers k positions. Of equals it takes w, the shorter. There is room to count those of the rows before and of this one.
 fn better(b: Pick, w: usize, k: usize) -> Pick
     requires { ⌜ b .total < 2 * mostWeighed ⌝ }
     ensures { λ r. ⌜ Better b w k r ⌝ }
@@ -138,7 +138,7 @@ pub fn row(
     ensures judged { λ p. ⌜ Judgement (now (x .entry)) j total p ⌝ }
 {
     if b == 0 {
-        // Its cover, 0, is its entry of the chain.
+        // Its cover is 0, and so is its entry of the chain: nothing to store.
         return alone(x, last, held, j, total);
     }
     let w = chains::heaviest(x, last, chain, j, b);

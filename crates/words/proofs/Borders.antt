@@ -1,21 +1,24 @@
 -- Borders and the border table. Under any rule: the table's entry is the longest border, and a border grows by one reading that agrees.
 -- Where readings agree by being equal: a border of a border is a border, a shorter border is a border of a longer one, and so the
 -- chain of the border table passes every border. Assumes nothing.
-use mathlib.Core.Bool.{Bool, true, _&&_}
-use mathlib.Core.Path.{_≡_, refl, sym, ap, _∙_}
+use mathlib.Core.Bool.{Bool, true}
+use mathlib.Core.Path.{_≡_, refl, sym, _∙_}
 use mathlib.Core.List.{List}
 use mathlib.Core.Logic.{_⊎_, inl, inr, ⊎-elim, _↔_}
 use Prim.Native.Nat.{ℕ, zero, suc, _+_, _-_, _≤_, _<_}
 use native.Mathlib.Nat.{eq-or-lt-of-le}
 use native.Mathlib.Numerals.{add-one}
 use native.Mathlib.Omega.{arith}
-use lib.ListN.{getD}
+use lib.ListN.{length, getD}
 use lib.Dec.{eqb, ltb}
+use mir.Syntax.{w16}
+use mir.Val.{Fits}
 use borrow.Author.Tests.{ltb-true, lt-ltb, eqb-true, eq-eqb}
-use Rattle.words.specs.Search.{greatest}
 use Rattle.words.specs.Words.{occurs, isBorder, border}
+use Rattle.words.specs.Tables.{borderRow}
+use Rattle.words.specs.Refusals.{longest}
 use Rattle.words.proofs.Tests.{and-left, and-right, and-both}
-use Rattle.words.proofs.Search.{greatest-lt, greatest-passes, greatest-most, greatest-is}
+use Rattle.words.proofs.Search.{greatest-passes, greatest-most, greatest-is}
 use Rattle.words.proofs.Occurrences.{Occurs, occurs-iff, occurs-none, same, is-same, at, agree-at}
 
 pub record Border (ag : ℕ → ℕ → Bool) (x : List ℕ) (i m : ℕ) : Type 0 where
@@ -144,3 +147,7 @@ module _ (x : List ℕ) where
         (λ (l : m < k). border-most eqb x k m (border-inner x i k m (c .border) b l))
         (eq-or-lt-of-le (c .most m b e));
   }
+
+-- in a log that is accepted a border is a table's entry
+pub border-fits : (x : List ℕ) (r : ℕ) {b : ℕ} → b ≡ borderRow x r → r < length x → length x ≤ longest → Fits w16 b
+border-fits x r e h s = omega (arith, border-lt eqb x (r + 1) (omega arith))

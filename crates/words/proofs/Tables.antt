@@ -84,7 +84,7 @@ module _ (f : ℕ → ℕ) where
         ∙ written-stays m (drop a t) (r - a) (omega arith) ∙ getD-drop a t (r - a) 0 ∙ ap (λ (k : ℕ). getD t k 0) (omega arith)
 
 -- written twice: what the second writes
-pub written-again : (f g : ℕ → ℕ) (n : ℕ) (t : List ℕ) → written g n (written f n t) ≡ written g n t
+written-again : (f g : ℕ → ℕ) (n : ℕ) (t : List ℕ) → written g n (written f n t) ≡ written g n t
 unfolding written
 written-again f g n t = ap (λ (y : List ℕ). tabulate g n ++ y) (drop-at (tabulate f n) (drop n t) n (length-tabulate f n))
 
@@ -131,6 +131,9 @@ written-holds f x s h e = record {
   room = omega (arith, ap length e, length-written (f x) (length x) s h);
   rows = λ r l. ap (λ (y : List ℕ). getD y r 0) e ∙ getD-written (f x) (length x) s r l;
 }
+
+pub holds-row : (f : Column) {x t : List ℕ} {r v : ℕ} → v ≡ getD t r 0 → Holds f x t → r < length x → v ≡ f x r
+holds-row f {r = r} e h l = e ∙ h .rows r l
 
 -- the first row is stored before the others are filled in, whatever it held
 module _ (f : Column) (x t : List ℕ) where
@@ -197,5 +200,5 @@ rows-under f g {x} {t₀} {t} {r} e w h l = e ∙ ap (λ (y : List ℕ). getD y 
 pub still-room : (g : Column) {x t s : List ℕ} → Room x t → s ≡ written (g x) (length x) t → Room x s
 still-room g {x} {t} h e = record { most = h .most; room = omega (arith, ap length e, length-written (g x) (length x) t (h .room), h .room) }
 
-pub written-over-all : (g f : Column) (x t : List ℕ) {s u : List ℕ} → s ≡ written (g x) (length x) t → u ≡ written (f x) (length x) s → u ≡ written (f x) (length x) t
-written-over-all g f x t e d = d ∙ ap (written (f x) (length x)) e ∙ written-again (g x) (f x) (length x) t
+pub laid-over : (f g : Column) (x t : List ℕ) {s u : List ℕ} → s ≡ written (g x) (length x) t → u ≡ written (f x) (length x) s → u ≡ written (f x) (length x) t
+laid-over f g x t e d = d ∙ ap (written (f x) (length x)) e ∙ written-again (g x) (f x) (length x) t

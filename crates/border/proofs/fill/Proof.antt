@@ -5,7 +5,8 @@ use borrow.Author.Needs.{needs}
 use lib.ListN.{length}
 use Rattle.words.specs.Tables.{borderRow}
 use Rattle.words.proofs.Tables.{Rows, rows-length, rows-inside, rows-filled, rows-more, rows-done}
-use Rattle.border.proofs.Steps.{first-row, fill-start, row-before, row-fits}
+use Rattle.words.proofs.Borders.{border-fits}
+use Rattle.border.proofs.Steps.{first-row, fill-start, row-before}
 use Rattle.border.proofs.fill.Statement.{statement}
 use Rattle.border.proofs.fill.Tie as tie
 
@@ -23,7 +24,7 @@ fill-spec =
     μ-loop
     (λ c. (search fill-start, search needs, search first-row))
     (λ c κs. (search rows-filled, search needs, search needs))
-    (λ c. search (needs, row-fits))
+    (λ c. search (needs, border-fits))
     (λ c. search needs)
     (λ c. search (needs, rows-inside))
     (λ c. search needs)

@@ -1,6 +1,6 @@
 -- `chains::heaviest` meets its contract. Assumes nothing.
 use borrow.Author.Needs.{needs}
-use Rattle.chains.proofs.Steps.{no-border, in-marks, in-chain, marked-border, covered-border}
+use Rattle.chains.proofs.Steps.{no-border, in-flags, in-chain, flagged-border, covered-border}
 use Rattle.chains.proofs.heaviest.Statement.{statement}
 use Rattle.chains.proofs.heaviest.Tie as tie
 
@@ -10,9 +10,9 @@ heaviest-spec =
     (tie.spec
     (λ c. search no-border)
     (λ c. search needs)
-    (λ c. search (needs, in-marks))
-    (λ c. search in-marks)
-    (λ c. search marked-border)
+    (λ c. search (needs, in-flags))
+    (λ c. search in-flags)
+    (λ c. search flagged-border)
     (λ c. search needs)
     (λ c. search (needs, in-chain))
     (λ c. search in-chain)

@@ -1,4 +1,4 @@
--- `cover::grow` meets its contract. The loop's invariant: the first j rows of t are covers, the others still borders, up and kids are the tree of these lengths, and its window
+-- `cover::grow` meets its contract. The loop's invariant: the first j rows of t are covers, the others still borders, up and kids are the tree of the first j lengths, and its window
 -- starts no later than that of the row to come. The measure is what is left of x. Assumes nothing.
 use mathlib.Core.Path.{_≡_}
 use Prim.Native.Nat.{_≤_, _+_, _-_}

@@ -13,7 +13,11 @@ four-columns-spec =
     (λ c κs. (
       search (written-holds borderRow),
       search (written-holds coverRow),
-      record { most = search needs; bests = search needs; counts = search needs; chains = search needs; lasts = search needs; holds = search needs },
+      search needs,
+      search needs,
+      search needs,
+      search needs,
+      search needs,
     ))
     (λ c. search needs)
     (λ c. search needs)

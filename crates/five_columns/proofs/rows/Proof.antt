@@ -1,7 +1,7 @@
 -- `five_columns::rows` meets its contract. Assumes nothing.
 use borrow.Author.Needs.{needs}
 use Rattle.words.specs.Tables.{prefixRow}
-use Rattle.words.proofs.Tables.{written-over-all}
+use Rattle.words.proofs.Tables.{laid-over}
 use Rattle.words.proofs.Weighs.{heaviestRow}
 use Rattle.bases.proofs.Work.{work-blank}
 use Rattle.five_columns.proofs.rows.Statement.{statement}
@@ -22,5 +22,5 @@ rows-spec =
     (λ c. search needs)
     (λ c. (
       search needs,
-      (search (written-over-all heaviestRow prefixRow), (search needs, (search needs, (search needs, search needs)))),
+      (search (laid-over prefixRow heaviestRow), (search needs, (search needs, (search needs, search needs)))),
     )))

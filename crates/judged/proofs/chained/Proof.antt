@@ -17,4 +17,4 @@ chained-spec =
     (λ c. search needs)
     (λ c. search needs)
     (λ c. search needs)
-    (λ c. search (laid-holds coverRow heaviestRow)))
+    (λ c. search (laid-holds heaviestRow coverRow)))

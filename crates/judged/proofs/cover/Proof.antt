@@ -1,7 +1,7 @@
 -- `judged::cover` meets its contract. Assumes nothing.
 use borrow.Author.Needs.{needs}
 use Rattle.words.specs.Tables.{borderRow, coverRow}
-use Rattle.words.proofs.Tables.{written-holds, written-over-all}
+use Rattle.words.proofs.Tables.{written-holds, laid-over}
 use Rattle.bases.proofs.Work.{work-blank}
 use Rattle.judged.proofs.cover.Statement.{statement}
 use Rattle.judged.proofs.cover.Tie as tie
@@ -15,4 +15,4 @@ cover-spec =
     (λ c. search needs)
     (λ c κs. (search (written-holds borderRow), search needs, search work-blank))
     (λ c. search needs)
-    (λ c. search (written-over-all borderRow coverRow)))
+    (λ c. search (laid-over coverRow borderRow)))

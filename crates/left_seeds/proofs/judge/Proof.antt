@@ -1,5 +1,5 @@
--- `left_seeds::judge` meets its contract. The loop's invariant: below j both tables have their rows and `chain` the chain's, from j on `chain` has still covers; XX first j rows written, last and held have the tallies
--- of the first j prefixes, and s is how the first j readings stand. The measure is what is left of x. Assumes nothing.
+-- `left_seeds::judge` meets its contract. The loop's invariant: below j the rows of both tables are written and those of `chain` are the
+-- chain's, from j on those of `chain` are still covers; last and held have the tallies of the first j prefixes, and s is how the first j readings stand. The measure is what is left of x. Assumes nothing.
 use mathlib.Core.Path.{_≡_}
 use Prim.Native.Nat.{_-_, _≤_}
 use borrow.Author.Needs.{needs}

@@ -1,6 +1,7 @@
 -- `left_seeds::row` meets its contract. Assumes nothing.
 use borrow.Author.Needs.{needs}
-use Rattle.left_seeds.proofs.Steps.{row-border}
+use Rattle.words.specs.Tables.{borderRow}
+use Rattle.words.proofs.Tables.{holds-row}
 use Rattle.left_seeds.proofs.row.Statement.{statement}
 use Rattle.left_seeds.proofs.row.Tie as tie
 
@@ -11,7 +12,7 @@ row-spec =
     (λ c. search needs)
     (λ c. search needs)
     (λ c κs. search needs)
-    (λ c κs. (search needs, search needs, search needs, search row-border, search needs, search needs))
+    (λ c κs. (search needs, search needs, search needs, search (holds-row borderRow), search needs, search needs))
     (λ c κs. (search needs, search needs, search needs, search needs, search needs))
     (λ c. search needs)
     (λ c. search needs)

@@ -21,10 +21,7 @@ rows-spec =
     (λ c. search needs)
     (λ c. search needs)
     (λ c. search needs)
-    (λ c κs. (
-      search needs,
-      record { most = search needs; covers = search needs; lasts = search needs; holds = search needs; bests = search needs; counts = search needs },
-    ))
+    (λ c κs. (search needs, search needs, search needs, search needs, search needs, search needs))
     (λ c. search needs)
     (λ c. search needs)
     (λ c. search needs))

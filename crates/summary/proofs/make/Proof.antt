@@ -8,10 +8,7 @@ make-spec =
     tie.close
     (tie.spec
     (λ c κs. search needs)
-    (λ c κs. (
-      record { most = search needs; covers = search needs; lasts = search needs; holds = search needs; bests = search needs; counts = search needs },
-      search needs,
-    ))
+    (λ c κs. (search needs, search needs, search needs, search needs, search needs))
     (λ c. search needs)
     (λ c. search needs)
     (λ c. search needs)

@@ -13,7 +13,7 @@ of-spec =
     (λ c. search needs)
     (λ c. search needs)
     (λ c. search needs)
-    (λ c κs. record { some = search needs; most = search needs; bests = search needs; counts = search needs; chains = search needs; blank = search work-blank; listed = search needs })
+    (λ c κs. (search needs, search needs, search needs, search work-blank, search needs, search needs))
     (λ c. search needs)
     (λ c. search needs)
     (λ c. search needs)

@@ -1,11 +1,11 @@
--- `chains::mark` meets its contract. Assumes nothing.
+-- `chains::flag` meets its contract. Assumes nothing.
 use borrow.Author.Needs.{needs}
 use Rattle.chains.proofs.Steps.{row-bare, row-covered}
-use Rattle.chains.proofs.mark.Statement.{statement}
-use Rattle.chains.proofs.mark.Tie as tie
+use Rattle.chains.proofs.flag.Statement.{statement}
+use Rattle.chains.proofs.flag.Tie as tie
 
-pub mark-spec : {M : Type 1} → statement M
-mark-spec =
+pub flag-spec : {M : Type 1} → statement M
+flag-spec =
     tie.close
     (tie.spec
     (λ c. search needs)
