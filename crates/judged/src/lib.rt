@@ -7,10 +7,12 @@ ghost use lib.ListN.{length, drop};
 ghost use Rattle.words.specs.Words as Words;
 ghost use Rattle.words.specs.Tables.{coverRow, bestRow, countRow, written};
 ghost use Rattle.words.specs.Answers.{breakdownPlaces, broken, listed};
-ghost use Rattle.words.proofs.Tables.{Room, Holds};
+ghost use Rattle.words.proofs.Tables.{Room};
 ghost use Rattle.words.proofs.Refusals.{Judged};
-ghost use Rattle.words.proofs.Weighs.{heaviestRow};
-ghost use Rattle.cover.specs.Tree.{Blank};
+
+// By how much the array of the chain is longer than the others. Where two lie a multiple of 4,096 bytes apart, a read of the one waits for a store to the same
+// row of the other: no instruction more, but time.
+const APART: usize = 96;
 
 // Writes the cover table of x into the first rows of t.
 pub fn cover(x: &[u8], t: &mut [u16])
@@ -31,7 +33,7 @@ pub fn enhanced(x: &[u8], best: &mut [u16], count: &mut [u16]) -> u32
     ensures count { λ _. ⌜ now (count .exit) ≡ written (countRow (now (x .entry))) (length (now (x .entry))) (now (count .entry)) ⌝ }
     ensures total { λ r. ⌜ r ≡ Words.total eqb (now (x .entry)) ⌝ }
 {
-    let mut chain = [0u16; words::LONGEST];
+    let mut chain = [0u16; words::LONGEST + APART];
     let mut up = [0u16; words::LONGEST + 1];
     let mut kids = [0u16; words::LONGEST + 1];
     bases::borders_and_covers(x, best, &mut chain, &mut up, &mut kids);
@@ -90,24 +92,15 @@ pub fn covers(x: &[u8], t: &mut [u16]) -> usize
     coverings::list(x, &table, t)
 }
 
-// The chain of weighed borders of x, laid over its cover table; the tree of that table leaves an array to the flags.
-fn chained(x: &[u8], border: &mut [u16], chain: &mut [u16], up: &mut [u16], kids: &mut [u16])
-    requires { ⌜ Room (now x) (now border) × Room (now x) (now chain) × Blank (now x) (now up) (now kids) ⌝ }
-    ensures { λ _. ⌜ Holds heaviestRow (now (x .entry)) (now (chain .exit)) ⌝ }
-{
-    bases::borders_and_covers(x, border, chain, up, kids);
-    chains::rows(x, border, up, chain);
-}
-
 // The weighed list of the whole of x.
 pub fn weighed(x: &[u8]) -> words::Weighed
     requires { ⌜ Judged (length (now x)) ⌝ }
     ensures { λ r. ⌜ r ≡ listed 0 (Words.weighed eqb (now (x .entry)) (length (now (x .entry)))) (Words.limit (length (now (x .entry)))) ⌝ }
 {
     let mut border = [0u16; words::LONGEST];
-    let mut chain = [0u16; words::LONGEST];
+    let mut cover = [0u16; words::LONGEST];
     let mut up = [0u16; words::LONGEST + 1];
     let mut kids = [0u16; words::LONGEST + 1];
-    chained(x, &mut border, &mut chain, &mut up, &mut kids);
-    weighing::list(x, &chain)
+    bases::borders_and_covers(x, &mut border, &mut cover, &mut up, &mut kids);
+    weighing::list(x, &border, &cover)
 }

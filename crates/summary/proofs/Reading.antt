@@ -14,15 +14,14 @@ use Rattle.words.proofs.Tables.{Holds}
 use Rattle.summary.specs.declared.Outline.{Outline}
 use Rattle.summary.specs.Whole.{outlineOf, summaryOf}
 
-pub summary-is : {x best count : List ℕ} {o : Outline} {w : Weighed} → 0 < length x → Holds bestRow x best → Holds countRow x count
-    → o ≡ outlineOf x → w ≡ listed 0 (Words.weighed eqb x (length x)) (Words.limit (length x))
-    → record { normal = o .normal; best = getD best (length x - 1) 0; count = getD count (length x - 1) 0; covers = o .covers; weighed = w } ≡ summaryOf x
+pub summary-is : {x best count : List ℕ} {o : Outline} → 0 < length x → Holds bestRow x best → Holds countRow x count → o ≡ outlineOf x
+    → record { normal = o .normal; best = getD best (length x - 1) 0; count = getD count (length x - 1) 0; covers = o .covers; weighed = o .weighed } ≡ summaryOf x
 unfolding summaryOf outlineOf
-summary-is {x} some b c o w =
+summary-is {x} some b c o =
     let last : length x - 1 + 1 ≡ length x = omega arith in
-    rw (o, w, b .rows (length x - 1) (omega arith), c .rows (length x - 1) (omega arith), last)
+    rw (o, b .rows (length x - 1) (omega arith), c .rows (length x - 1) (omega arith), last)
 
-pub outline-is : (x : List ℕ) {p : Part} {k : ℕ} → p ≡ Words.normal eqb x (length x) → k ≡ length (Words.coverList eqb x)
-    → record { normal = p; covers = k } ≡ outlineOf x
+pub outline-is : (x : List ℕ) {p : Part} {k : ℕ} {w : Weighed} → p ≡ Words.normal eqb x (length x) → k ≡ length (Words.coverList eqb x)
+    → w ≡ listed 0 (Words.weighed eqb x (length x)) (Words.limit (length x)) → record { normal = p; covers = k; weighed = w } ≡ outlineOf x
 unfolding outlineOf
-outline-is x p k = rw (p, k)
+outline-is x p k w = rw (p, k, w)

@@ -7,7 +7,6 @@ use Rattle.words.specs.Words as Words
 use Rattle.words.specs.Tables.{bestRow, countRow}
 use Rattle.words.specs.Answers.{listed}
 use Rattle.words.proofs.Tables.{Holds}
-use Rattle.words.proofs.Weighs.{heaviestRow}
 use Rattle.summary.specs.declared.Outline.{Outline}
 use Rattle.summary.specs.declared.Summary.{Summary}
 
@@ -23,10 +22,11 @@ summaryOf x =
     }
 
 unfoldable pub outlineOf : List ℕ → Outline
-outlineOf x = record { normal = Words.normal eqb x (length x); covers = length (Words.coverList eqb x) }
+outlineOf x =
+    let n = length x in
+    record { normal = Words.normal eqb x n; covers = length (Words.coverList eqb x); weighed = listed 0 (Words.weighed eqb x n) (Words.limit n) }
 
 -- the tables made
-pub record Made (x best count chain : List ℕ) : Type 0 where
+pub record Made (x best count : List ℕ) : Type 0 where
   pub bests : Holds bestRow x best
   pub counts : Holds countRow x count
-  pub chains : Holds heaviestRow x chain

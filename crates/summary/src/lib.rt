@@ -5,7 +5,7 @@ ghost use Prim.Native.Nat.{_≤_, _<_};
 ghost use lib.Dec.{eqb};
 ghost use lib.ListN.{length, drop};
 ghost use Rattle.words.specs.Words.{coverList};
-ghost use Rattle.words.specs.Tables.{borderRow, coverRow};
+ghost use Rattle.words.specs.Tables.{borderRow, coverRow, written};
 ghost use Rattle.words.specs.Refusals.{longest};
 ghost use Rattle.words.proofs.Tables.{Room, Holds};
 ghost use Rattle.cover.specs.Tree.{Blank};
@@ -24,6 +24,7 @@ pub struct Summary {
 pub struct Outline {
     pub normal: words::Part,
     pub covers: usize,
+    pub weighed: words::Weighed,
 }
 
 // Reads the outline off the border and the cover table, and writes the covers, rising, into the first entries of the lent table.
@@ -35,6 +36,7 @@ fn read_bases(x: &[u8], border: &[u16], cover: &[u16], covers: &mut [u16]) -> Ou
     Outline {
         normal: parts::normal(x, border, x.len()),
         covers: coverings::list(x, cover, covers),
+        weighed: weighing::list(x, border, cover),
     }
 }
 
@@ -49,7 +51,8 @@ fn begin(
 ) -> Outline
     requires { ⌜ Room (now x) (now border) × Room (now x) (now cover) × Blank (now x) (now up) (now kids) × Room (now x) (now covers) × (0 < length (now x)) ⌝ }
     ensures whole { λ r. ⌜ r ≡ outlineOf (now (x .entry)) ⌝ }
-    ensures made { λ _. ⌜ Holds borderRow (now (x .entry)) (now (border .exit)) × Holds coverRow (now (x .entry)) (now (cover .exit)) ⌝ }
+    ensures border { λ _. ⌜ now (border .exit) ≡ written (borderRow (now (x .entry))) (length (now (x .entry))) (now (border .entry)) ⌝ }
+    ensures cover { λ _. ⌜ now (cover .exit) ≡ written (coverRow (now (x .entry))) (length (now (x .entry))) (now (cover .entry)) ⌝ }
     ensures table { λ _. ⌜ now (covers .exit) ≡ coverList eqb (now (x .entry)) ++ drop (length (coverList eqb (now (x .entry)))) (now (covers .entry)) ⌝ }
 {
     bases::borders_and_covers(x, border, cover, up, kids);
@@ -66,48 +69,29 @@ fn lay(
     held: &mut [u16],
 )
     requires { ⌜ Holds borderRow (now x) (now best) × Holds coverRow (now x) (now chain) × Room (now x) (now last) × Room (now x) (now held) × Room (now x) (now count) ⌝ }
-    ensures { λ _. ⌜ Made (now (x .entry)) (now (best .exit)) (now (count .exit)) (now (chain .exit)) ⌝ }
+    ensures { λ _. ⌜ Made (now (x .entry)) (now (best .exit)) (now (count .exit)) ⌝ }
 {
     enhanced::rows(x, chain, last, held, best, count);
 }
 
-// Makes all tables. The first two are read before they are laid over.
-fn make(
-    x: &[u8],
-    best: &mut [u16],
-    count: &mut [u16],
-    chain: &mut [u16],
-    up: &mut [u16],
-    kids: &mut [u16],
-    covers: &mut [u16],
-) -> Outline
-    requires { ⌜ Room (now x) (now best) × Room (now x) (now count) × Room (now x) (now chain) × Blank (now x) (now up) (now kids) × Room (now x) (now covers) × (0 < length (now x)) ⌝ }
-    ensures whole { λ r. ⌜ r ≡ outlineOf (now (x .entry)) ⌝ }
-    ensures made { λ _. ⌜ Made (now (x .entry)) (now (best .exit)) (now (count .exit)) (now (chain .exit)) ⌝ }
-    ensures table { λ _. ⌜ now (covers .exit) ≡ coverList eqb (now (x .entry)) ++ drop (length (coverList eqb (now (x .entry)))) (now (covers .entry)) ⌝ }
-{
-    let first = begin(x, best, chain, up, kids, covers);
-    lay(x, best, count, chain, up, kids);
-    first
-}
-
-// Reads off the last rows and the chain what is left to say.
-fn read_rest(x: &[u8], best: &[u16], count: &[u16], chain: &[u16], first: Outline) -> Summary
-    requires { ⌜ Made (now x) (now best) (now count) (now chain) × (first ≡ outlineOf (now x)) × (0 < length (now x)) × (length (now x) ≤ longest) ⌝ }
+// Reads off the last rows what is left to say.
+fn read_rest(x: &[u8], best: &[u16], count: &[u16], first: Outline) -> Summary
+    requires { ⌜ Made (now x) (now best) (now count) × (first ≡ outlineOf (now x)) × (0 < length (now x)) × (length (now x) ≤ longest) ⌝ }
     ensures { λ r. ⌜ r ≡ summaryOf (now (x .entry)) ⌝ }
 {
     let last = x.len() - 1;
     let normal = first.normal;
+    let weighed = first.weighed;
     Summary {
         normal: normal,
         best: best[last],
         count: count[last],
         covers: first.covers,
-        weighed: weighing::list(x, chain),
+        weighed: weighed,
     }
 }
 
-// Sums x up, and writes its covers, rising, into the first entries of the lent table.
+// Sums x up, and writes its covers, rising, into the first entries of the lent table. The border and the cover table are read before they are laid over.
 pub fn of(x: &[u8], covers: &mut [u16]) -> Summary
     requires { ⌜ Room (now x) (now covers) × (0 < length (now x)) ⌝ }
     ensures whole { λ r. ⌜ r ≡ summaryOf (now (x .entry)) ⌝ }
@@ -118,14 +102,7 @@ pub fn of(x: &[u8], covers: &mut [u16]) -> Summary
     let mut chain = [0u16; words::LONGEST];
     let mut up = [0u16; words::LONGEST + 1];
     let mut kids = [0u16; words::LONGEST + 1];
-    let first = make(
-        x,
-        &mut best,
-        &mut count,
-        &mut chain,
-        &mut up,
-        &mut kids,
-        covers,
-    );
-    read_rest(x, &best, &count, &chain, first)
+    let first = begin(x, &mut best, &mut chain, &mut up, &mut kids, covers);
+    lay(x, &mut best, &mut count, &mut chain, &mut up, &mut kids);
+    read_rest(x, &best, &count, first)
 }

@@ -11,18 +11,18 @@ use lib.Dec.{eqb}
 use mir.Syntax.{w16}
 use mir.Val.{Fits}
 use borrow.Author.Tests.{le-leb, lt-leb}
-use Rattle.words.specs.Words.{covered, used}
+use Rattle.words.specs.Words.{cover, covered, used}
 use Rattle.words.specs.Tables.{borderRow, coverRow}
 use Rattle.words.specs.Refusals.{longest}
 use Rattle.words.proofs.Tables.{Room, Holds, Filled, Rows, rows-more, rows-under}
-use Rattle.words.proofs.Borders.{border-most}
+use Rattle.words.proofs.Tests.{eq-or-ne}
+use Rattle.words.proofs.Borders.{border-lt, border-most}
 use Rattle.words.proofs.Covers.{Covers, covers-border, cover-covers, cover-lt}
 use Rattle.words.proofs.Counts.{covered-le}
-use Rattle.words.proofs.Weighs.{heaviest, heaviestRow, heaviest-lt, heaviest-empty, rest, rest-first, rest-next, rest-none, used-places}
+use Rattle.words.proofs.Weighs.{heaviest, heaviestRow, heaviest-lt, heaviest-empty, heaviest-bare, heaviest-down, rest, rest-first, rest-next, rest-none, used-places}
 use Rattle.words.proofs.Lossless.{Picked, picked-start, picked-next, picked-best, picked-count}
-use Rattle.chains.proofs.Steps.{flag-bare, flag-covered}
 use Rattle.tallies.specs.declared.Pick.{Pick}
-use Rattle.tallies.specs.Tallies.{mostWeighed, Tallies, Round, Better, Judgement}
+use Rattle.tallies.specs.Tallies.{mostWeighed, Flags, Tallies, Round, Better, Judgement}
 use Rattle.tallies.proofs.Tallies.{round-start, round-weighs, round-last, round-held, round-count, round-next, round-done}
 
 -- the entry for the prefix of length q stands at row q - 1
@@ -42,11 +42,11 @@ module _ (b : Pick) (w k : ℕ) where
 
 module _ {x l h : List ℕ} {j : ℕ} (t : Tallies x l h j) (i : j < length x) where
   pub enter-round : (v : ℕ) → v ≡ j + 1 → coverRow x j ≡ 0 → Round x (set l j v) (set h j v) j (heaviestRow x j)
-  enter-round v e z = round-start v (set h j v) t i (e ∙ sym (flag-bare x (j + 1) z)) (rw (length-set h j v) (t .holds))
-      (λ k n. getD-set-other h j k v 0 n) (λ _. getD-set-same h j v 0 (omega (arith, t .holds)) ∙ e)
+  enter-round v e z = round-start v (set h j v) t i (rw (length-set h j v) (t .holds)) (λ k n. getD-set-other h j k v 0 n)
+      (λ _. (e, getD-set-same h j v 0 (omega (arith, t .holds)) ∙ e)) (λ n. absurd (n z))
 
   pub covered-round : (c : ℕ) → c ≡ coverRow x j → (c ≡ 0 → ⊥) → Round x (set l j 0) h j (heaviestRow x j)
-  covered-round c e n = round-start 0 h t i (sym (flag-covered x (j + 1) (λ z. n (e ∙ z)))) (t .holds) (λ k _. refl) (λ z. absurd (n (e ∙ z)))
+  covered-round c e n = round-start 0 h t i (t .holds) (λ k _. refl) (λ z. absurd (n (e ∙ z))) (λ _. refl)
 
 module _ {x l h : List ℕ} {j w : ℕ} (r : Round x l h j w) (p : 0 < w) (e c : ℕ) (el : e ≡ getD l (w - 1) 0) (ec : c ≡ getD h (w - 1) 0) where
   nz : w ≡ 0 → ⊥
@@ -135,7 +135,38 @@ alone-laid x v j b d n e =
     let z : 0 ≡ borderRow x j = sym n ∙ d in
     sym (ap (set v j) (sym (alone-heaviest x j z) ∙ sym (e ∙ alone-cover x j z)) ∙ set-getD v j 0)
 
+-- ---- `heaviest`
+
+module _ (x : List ℕ) (j b : ℕ) (e : b ≡ borderRow x j) (some : 0 < b) where
+  below : b ≤ j
+  below = omega (arith, border-lt eqb x (j + 1) (omega arith))
+
+  border-some : borderRow x j ≡ 0 → ⊥
+  border-some z = omega arith
+
+  module _ {s : List ℕ} (k : Flags x s j) where
+    pub in-last : j < length x → b - 1 < length s
+    in-last h = omega (arith, below, k .room)
+
+    pub flagged-border : (getD s (b - 1) 0 ≡ 0 → ⊥) → b ≡ heaviestRow x j
+    flagged-border n = ⊎-elim
+        (λ (z : cover eqb x b ≡ 0). e ∙ sym (heaviest-bare x (j + 1) (omega arith) border-some (rw e at z)))
+        (λ (c : cover eqb x b ≡ 0 → ⊥). absurd (n (k .covered b some below c)))
+        (eq-or-ne (cover eqb x b) 0)
+
+    covered-not : getD s (b - 1) 0 ≡ 0 → cover eqb x (borderRow x j) ≡ 0 → ⊥
+    covered-not n z = omega (arith, k .bare b some below (rw e z))
+
+    pub covered-border : {v : List ℕ} → Filled heaviestRow x v j → getD s (b - 1) 0 ≡ 0 → (w : ℕ) → w ≡ getD v (b - 1) 0 → w ≡ heaviestRow x j
+    covered-border f n w q = q ∙ chain-at f b some below ∙ ap (heaviest x) e ∙ sym (heaviest-down x (j + 1) (omega arith) border-some (covered-not n))
+
+  pub in-chain : {v : List ℕ} → Filled heaviestRow x v j → b - 1 < length v
+  in-chain f = omega (arith, below, f .inside, f .room)
+
 -- ---- `row`: the row's own entry of the chain is stored
+
+pub chain-fits : (x : List ℕ) (j : ℕ) {w : ℕ} → w ≡ heaviestRow x j → j < length x → length x ≤ longest → Fits w16 w
+chain-fits x j e h s = omega (arith, heaviest-lt x (j + 1) (omega arith))
 
 -- the rows before it stay
 pub chain-laid : {x : List ℕ} (v : List ℕ) (j w : ℕ) → Filled heaviestRow x v j → Filled heaviestRow x (set v j w) j

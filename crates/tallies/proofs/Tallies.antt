@@ -14,9 +14,7 @@ use Rattle.words.proofs.Occurrences.{Occurs, eqb-refl, occurs-same, occurs-self
 use Rattle.words.proofs.Covers.{covers-self}
 use Rattle.words.proofs.Counts.{covered-le, covered-all, covered-next}
 use Rattle.words.proofs.Weighs.{Weighs, weighs-inner, weighs-outer, heaviest, heaviest-weighs, heaviest-most, heaviest-lt}
-use Rattle.chains.specs.Flags.{Flags, flagRow}
-use Rattle.chains.proofs.Steps.{flag-bare, flag-covered}
-use Rattle.tallies.specs.Tallies.{Tally, Tallies, Round}
+use Rattle.tallies.specs.Tallies.{Tally, Flags, Tallies, Round}
 
 module _ (x : List ℕ) where
   pub tally-self : (i : ℕ) → 0 < i → Tally x i i i i
@@ -56,9 +54,9 @@ ends-weighs x i n h l e a = record { some = h; border = record { below = l; ends
 
 module _ {x l h : List ℕ} {j : ℕ} where
   -- what is longer than the longest weighed border, and uncovered, does not end at j + 1. Only row j is new; of h only where j + 1 has no proper cover
-  pub round-start : (v : ℕ) (g : List ℕ) → Tallies x l h j → j < length x → v ≡ flagRow x j → length x ≤ length g
-      → ((k : ℕ) → (k ≡ j → ⊥) → getD g k 0 ≡ getD h k 0) → (cover eqb x (j + 1) ≡ 0 → getD g j 0 ≡ j + 1) → Round x (set l j v) g j (heaviest x (j + 1))
-  round-start v g t i ev room same own =
+  pub round-start : (v : ℕ) (g : List ℕ) → Tallies x l h j → j < length x → length x ≤ length g → ((k : ℕ) → (k ≡ j → ⊥) → getD g k 0 ≡ getD h k 0)
+      → (cover eqb x (j + 1) ≡ 0 → (v ≡ j + 1) × (getD g j 0 ≡ j + 1)) → ((cover eqb x (j + 1) ≡ 0 → ⊥) → v ≡ 0) → Round x (set l j v) g j (heaviest x (j + 1))
+  round-start v g t i room same own none =
       let b : heaviest x (j + 1) ≤ j = omega (arith, heaviest-lt x (j + 1) (omega arith)) in record {
         lasts = rw (length-set l j v) (t .lasts);
         holds = room;
@@ -66,12 +64,12 @@ module _ {x l h : List ℕ} {j : ℕ} where
         below = b;
         weighs = heaviest-weighs x (j + 1);
         done = λ n u p z. ⊎-elim
-            (λ (s : n ≡ j + 1). rw (s, add-sub-cancel, getD-set-same l j v 0 (omega (arith, t .lasts)), own (rw s at z), ev, flag-bare x (j + 1) (rw s at z)) (tally-self x (j + 1) (omega arith)))
+            (λ (s : n ≡ j + 1). rw (s, add-sub-cancel, getD-set-same l j v 0 (omega (arith, t .lasts)), own (rw s at z) .1, own (rw s at z) .0) (tally-self x (j + 1) (omega arith)))
             (λ (s : n < j + 1). rw (getD-set-other l j (n - 1) v 0 (omega arith), same (n - 1) (omega arith))
             (tally-miss x (t .each n (omega arith) (omega arith) z) (λ a. omega (arith, heaviest-most x (j + 1) n (ends-weighs x (j + 1) n (omega arith) s z a)))))
             (eq-or-lt-of-le u);
         none = λ n a u c. ⊎-elim
-            (λ (s : n ≡ j + 1). rw (s, add-sub-cancel, getD-set-same l j v 0 (omega (arith, t .lasts))) (ev ∙ flag-covered x (j + 1) (rw s at c)))
+            (λ (s : n ≡ j + 1). rw (s, add-sub-cancel, getD-set-same l j v 0 (omega (arith, t .lasts))) (none (rw s at c)))
             (λ (s : n < j + 1). getD-set-other l j (n - 1) v 0 (omega arith) ∙ t .none n a (omega arith) c)
             (eq-or-lt-of-le u);
         todo = λ n a u z. rw (getD-set-other l j (n - 1) v 0 (omega arith), same (n - 1) (omega arith)) (t .each n a (omega arith) z);

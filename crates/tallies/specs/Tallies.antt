@@ -29,6 +29,12 @@ pub record Tallies (x l h : List ℕ) (j : ℕ) : Type 0 where
   pub each : (n : ℕ) → 0 < n → n ≤ j → cover eqb x n ≡ 0 → Tally x n j (getD l (n - 1) 0) (getD h (n - 1) 0)
   pub none : (n : ℕ) → 0 < n → n ≤ j → (cover eqb x n ≡ 0 → ⊥) → getD l (n - 1) 0 ≡ 0
 
+-- of the lengths up to j, those that have a proper cover have the flag 0 in s, and no other
+pub record Flags (x s : List ℕ) (j : ℕ) : Type 0 where
+  pub room : length x ≤ length s
+  pub bare : (n : ℕ) → 0 < n → n ≤ j → cover eqb x n ≡ 0 → 0 < getD s (n - 1) 0
+  pub covered : (n : ℕ) → 0 < n → n ≤ j → (cover eqb x n ≡ 0 → ⊥) → getD s (n - 1) 0 ≡ 0
+
 -- from j to j + 1 down the weighed borders: the lengths above w are done, and w is 0 or weighed
 pub record Round (x l h : List ℕ) (j w : ℕ) : Type 0 where
   pub lasts : length x ≤ length l

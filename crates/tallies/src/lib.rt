@@ -7,8 +7,9 @@ ghost use Rattle.words.specs.Words.{covered};
 ghost use Rattle.words.specs.Tables.{borderRow, coverRow};
 ghost use Rattle.words.specs.Refusals as Refusals;
 ghost use Rattle.words.proofs.Tables.{Filled};
-ghost use Rattle.words.proofs.Weighs.{heaviest, heaviestRow};
-ghost use Rattle.tallies.specs.Tallies.{mostWeighed, Tallies, Round, Better, Judgement};
+ghost use Rattle.words.proofs.Weighs as Weighs;
+ghost use Rattle.words.proofs.Weighs.{heaviestRow};
+ghost use Rattle.tallies.specs.Tallies.{mostWeighed, Flags, Tallies, Round, Better, Judgement};
 
 // The best of the borders weighed so far, the positions that it covers, and how many were weighed, those of the rows before counted in.
 pub struct Pick {
@@ -85,7 +86,7 @@ fn alone(x: &[u8], last: &mut [u16], held: &mut [u16], j: usize, total: u32) -> 
 // The weighed border w ends at j + 1: the positions that it covers up to there.
 fn tally(x: &[u8], last: &mut [u16], held: &mut [u16], j: usize, w: usize) -> usize
     requires { ⌜ Round (now x) (now last) (now held) j w × (length (now x) ≤ Refusals.longest) × (0 < w) ⌝ }
-    ensures { λ k. ⌜ Round (now (x .entry)) (now (last .exit)) (now (held .exit)) j (heaviest (now (x .entry)) w) × (k ≡ covered eqb (now (x .entry)) (j + 1) w) ⌝ }
+    ensures { λ k. ⌜ Round (now (x .entry)) (now (last .exit)) (now (held .exit)) j (Weighs.heaviest (now (x .entry)) w) × (k ≡ covered eqb (now (x .entry)) (j + 1) w) ⌝ }
 {
     let e = words::wide(last[w - 1]);
     let c = words::wide(held[w - 1]);
@@ -122,6 +123,17 @@ fn weigh(
     b
 }
 
+// The longest weighed border of row j, whose border b is not empty: b, if it has no proper cover, as its last end says; else what its own row of the chain says.
+fn heaviest(x: &[u8], chain: &[u16], last: &[u16], j: usize, b: usize) -> usize
+    requires { ⌜ Flags (now x) (now last) j × Filled heaviestRow (now x) (now chain) j × (b ≡ borderRow (now x) j) × (0 < b) ⌝ }
+    ensures { λ w. ⌜ w ≡ heaviestRow (now (x .entry)) j ⌝ }
+{
+    if last[b - 1] != 0 {
+        return b;
+    }
+    words::wide(chain[b - 1])
+}
+
 // Row j, whose border is b: its entry of the chain is laid over its cover, and its weighed borders are tallied. `total` were weighed in the rows before.
 pub fn row(
     x: &[u8],
@@ -141,7 +153,7 @@ pub fn row(
         // Its cover is 0, and so is its entry of the chain: nothing to store.
         return alone(x, last, held, j, total);
     }
-    let w = chains::heaviest(x, last, chain, j, b);
+    let w = heaviest(x, chain, last, j, b);
     place(x, last, held, j, chain[j]);
     chain[j] = w as u16;
     weigh(x, chain, last, held, j, w, total)

@@ -16,4 +16,4 @@ begin-spec =
     (λ c. search needs)
     (λ c. search needs)
     (λ c. search needs)
-    (λ c. (search needs, ((search (written-holds borderRow), search (written-holds coverRow)), search needs))))
+    (λ c. (search needs, (search needs, (search needs, search needs)))))

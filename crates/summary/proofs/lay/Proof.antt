@@ -2,7 +2,6 @@
 use borrow.Author.Needs.{needs}
 use Rattle.words.specs.Tables.{bestRow, countRow}
 use Rattle.words.proofs.Tables.{written-holds}
-use Rattle.words.proofs.Weighs.{heaviestRow}
 use Rattle.summary.proofs.lay.Statement.{statement}
 use Rattle.summary.proofs.lay.Tie as tie
 
@@ -16,4 +15,4 @@ lay-spec =
     (λ c. search needs)
     (λ c. search needs)
     (λ c. search needs)
-    (λ c. record { bests = search (needs, written-holds bestRow); counts = search (needs, written-holds countRow); chains = search (needs, written-holds heaviestRow) }))
+    (λ c. record { bests = search (needs, written-holds bestRow); counts = search (needs, written-holds countRow) }))

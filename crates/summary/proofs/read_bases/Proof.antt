@@ -10,5 +10,6 @@ read-bases-spec =
     (tie.spec
     (λ c κs. search needs)
     (λ c κs. search needs)
+    (λ c κs. search needs)
     (λ c. search needs)
     (λ c. (search outline-is, search needs)))

@@ -13,5 +13,4 @@ read-rest-spec =
     (λ c. search needs)
     (λ c. search needs)
     (λ c. search needs)
-    (λ c κs. search needs)
     (λ c. search summary-is))
