@@ -1,8 +1,9 @@
 -- Lists in a strict order: what they hold and the order fix them, entry by entry. Assumes nothing.
 use mathlib.Core.Path.{_≡_, refl, sym, ap, ap₂, _∙_}
 use mathlib.Core.List.{List, [], _∷_}
+use mathlib.Core.Logic.{⊎-elim}
 use Prim.Native.Nat.{ℕ, zero, suc, _≤_, _<_}
-use native.Mathlib.Nat.{not-suc-le-zero, le-of-suc-le-suc}
+use native.Mathlib.Nat.{not-suc-le-zero, le-of-suc-le-suc, eq-or-lt-of-le}
 use native.Mathlib.Omega.{arith}
 use lib.ListN.{length, getD}
 
@@ -18,17 +19,20 @@ Rising = Listing (λ a b. a < b)
 abbrev pub Falling : (ℕ → Type 0) → List ℕ → Type 0
 Falling = Listing (λ a b. b < a)
 
-module _ (R : ℕ → ℕ → Type 0) (trans : (a b c : ℕ) → R a b → R b c → R a c) (asym : (a b : ℕ) → R a b → R b a → ⊥) where
-  -- the first entry is before every other
-  head-before : (P : ℕ → Type 0) (v : ℕ) (l : List ℕ) → Listing R P (v ∷ l) → (k : ℕ) → k < length l → R v (getD l k 0)
-  head-before P v l s zero h = s .order 0 (omega arith)
-  head-before P v l s (suc k) h =
-      trans v (getD l k 0) (getD l (suc k) 0) (head-before P v l s k (omega arith)) (s .order (suc k) (omega arith))
+module _ (R : ℕ → ℕ → Type 0) (trans : (a b c : ℕ) → R a b → R b c → R a c) where
+  -- each entry is before every one after it
+  pub listing-before : (P : ℕ → Type 0) (l : List ℕ) → Listing R P l → (j k : ℕ) → j < k → k < length l → R (getD l j 0) (getD l k 0)
+  listing-before P l s j zero h b = absurd (not-suc-le-zero h)
+  listing-before P l s j (suc k) h b = ⊎-elim
+      (λ (e : j ≡ k). rw e (s .order k b))
+      (λ (a : j < k). trans (getD l j 0) (getD l k 0) (getD l (suc k) 0) (listing-before P l s j k a (omega arith)) (s .order k b))
+      (eq-or-lt-of-le (le-of-suc-le-suc h))
 
+module _ (R : ℕ → ℕ → Type 0) (trans : (a b c : ℕ) → R a b → R b c → R a c) (asym : (a b : ℕ) → R a b → R b a → ⊥) where
   -- without its first entry a list has the numbers after that one
   tail-of : (P : ℕ → Type 0) (v : ℕ) (l : List ℕ) → Listing R P (v ∷ l) → Listing R (λ m. P m × R v m) l
   tail-of P v l s = record {
-    only = λ k h. (s .only (suc k) (omega arith), head-before P v l s k h);
+    only = λ k h. (s .only (suc k) (omega arith), listing-before R trans P (v ∷ l) s 0 (suc k) (omega arith) (omega arith));
     all = λ m p. place m p (s .all m (p .0));
     order = λ k h. s .order (suc k) (omega arith);
   }
@@ -44,7 +48,7 @@ module _ (R : ℕ → ℕ → Type 0) (trans : (a b c : ℕ) → R a b → R b c
       go (zero, h, e) b = e
       go (suc k, h, e) (zero, g, f) = sym f
       go (suc k, h, e) (suc j, g, f) =
-          absurd (asym v w (rw e at (head-before P v l s k (le-of-suc-le-suc h))) (rw f at (head-before P w m t j (le-of-suc-le-suc g))))
+          absurd (asym v w (rw e at (listing-before R trans P (v ∷ l) s 0 (suc k) (omega arith) h)) (rw f at (listing-before R trans P (w ∷ m) t 0 (suc j) (omega arith) g)))
 
   pub listing-one : (P : ℕ → Type 0) (l m : List ℕ) → Listing R P l → Listing R P m → l ≡ m
   listing-one P [] [] s t = refl
