@@ -9,15 +9,15 @@ use Rattle.words.specs.Refusals as R
 use Rattle.words.specs.Answers as A
 use Rattle.ceilings.specs.Ceilings as C
 use Rattle.repeats.specs.Repeats as L
-use Rattle.known.specs.Known.{Row, Right, rows, answer, asked, said, bytes}
+use Rattle.known.specs.Known.{Row, Right, rows, answer, tested, asked, said, bytes}
 
 Each : List Row → Type 0
 Each [] = Unit {0}
 Each (r ∷ rs) = Right r × Each rs
 
 each : Each rows
-unfolding rows Each Right asked said answer bytes S.all S.any S.howMany S.greatest S.peak S.falling S.rising W.occurs W.isBorder W.border W.prefix W.inside W.covers W.cover W.covered W.worth W.best W.count W.normal W.next W.breakdown W.coverList W.weighs W.weighed W.limit T.tabulate T.written T.window T.placed R.firstNo R.fewer R.logNo R.prefixNo R.bestNo R.windowNo A.accepted A.answer A.rooms A.outcome A.places A.middle A.weighing A.normalAnswer A.broken A.breakdownAnswer A.bestPatternNo A.windowOutcome C.ceiling C.stuck C.latest C.held C.ceilingOf C.ceilingAnswer L.times L.repeats L.worthBy L.leftCover L.leftCount L.begun L.reached L.leftSeed L.seedCount
-each = (refl, (refl, (refl, (refl, (refl, (refl, (refl, (refl, (refl, (refl, (refl, (refl, (refl, (refl, (refl, (refl, (refl, (refl, (refl, tt)))))))))))))))))))
+unfolding rows Each Right asked said answer tested bytes S.all S.any S.howMany S.greatest S.peak S.falling S.rising W.occurs W.isBorder W.border W.prefix W.inside W.covers W.cover W.covered W.worth W.best W.count W.normal W.next W.breakdown W.coverList W.weighs W.weighed W.limit T.tabulate T.written T.window T.placed R.firstNo R.fewer R.logNo R.prefixNo R.coverTestNo R.bestNo R.windowNo A.accepted A.answer A.rooms A.outcome A.places A.middle A.weighing A.normalAnswer A.coverTestAnswer A.broken A.breakdownAnswer A.bestPatternNo A.windowOutcome C.ceiling C.stuck C.latest C.held C.ceilingOf C.ceilingAnswer L.times L.repeats L.worthBy L.leftCover L.leftCount L.begun L.reached L.leftSeed L.seedCount
+each = (refl, (refl, (refl, (refl, (refl, (refl, (refl, (refl, (refl, (refl, (refl, (refl, (refl, (refl, (refl, (refl, (refl, (refl, (refl, (refl, tt))))))))))))))))))))
 
 each-at : (rs : List Row) → Each rs → (r : Row) → List·Memᴰ r rs → Right r
 unfolding Each

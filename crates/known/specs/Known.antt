@@ -7,6 +7,8 @@ use lib.Dec.{eqb}
 use lib.ListN.{length, getD, take, replicate}
 use mathlib.Core.Path.{_≡_}
 use Rattle.words.specs.declared.Weighing.{Weighing}
+use Rattle.words.specs.declared.CoverTest.{CoverTest}
+use Rattle.words.specs.declared.CoverTest.the-variants.{Yes, No, Refused}
 use Rattle.words.specs.Words as W
 use Rattle.words.specs.Tables as T
 use Rattle.words.specs.Answers as A
@@ -14,13 +16,13 @@ use Rattle.ceilings.specs.Ceilings as C
 use Rattle.repeats.specs.Repeats as L
 use Rattle.ceilings.proofs.Meaning.{flat}
 
--- What may be asked of a log. `weighed i` and `limit i`: at i. `times i q`: how often the first q readings occur in the first i. `window a m k`: the table after the first k, of twelve entries 77, after that window;
+-- What may be asked of a log. `weighed i` and `limit i`: at i. `test i q`: the cover test's number, and 1 for yes or 0. `times i q`: how often the first q readings occur in the first i. `window a m k`: the table after the first k, of twelve entries 77, after that window;
 -- `windowRefused a m`: the number of a refused window, in tables of twelve entries; `bestRefused`: the number of the best pattern;
 -- `ceiling`: the call's number, held and the ceiling
 pub data Asked : Type 0 where
   border prefix cover best count leftCover leftCount leftSeed seedCount normal covers breakdown bestRefused ceiling : Asked
   weighed limit : ℕ → Asked
-  times windowRefused : ℕ → ℕ → Asked
+  test times windowRefused : ℕ → ℕ → Asked
   window : ℕ → ℕ → ℕ → Asked
 
 infix 3 _gives_
@@ -43,6 +45,18 @@ twelve = replicate 12 77
 abbrev pub windowed : List ℕ → ℕ → ℕ → A.Outcome Weighing
 windowed x a m = A.windowOutcome x a m twelve twelve twelve twelve twelve
 
+-- an answer of the cover test: its number, and 1 for yes or 0
+unfoldable pub tested : CoverTest → List ℕ
+tested Yes = 0 ∷ 1 ∷ []
+tested No = 0 ∷ 0 ∷ []
+tested (Refused k) = k ∷ 0 ∷ []
+
+-- a settled room: the symbols of one cycle of forty readings
+abbrev pub forty : List ℕ
+forty =
+    10 ∷ 11 ∷ 12 ∷ 13 ∷ 13 ∷ 13 ∷ 14 ∷ 14 ∷ 14 ∷ 14 ∷ 14 ∷ 14 ∷ 13 ∷ 13 ∷ 13 ∷ 12 ∷ 12 ∷ 12 ∷ 11 ∷ 11
+    ∷ 11 ∷ 11 ∷ 10 ∷ 10 ∷ 10 ∷ 10 ∷ 10 ∷ 9 ∷ 9 ∷ 9 ∷ 9 ∷ 9 ∷ 8 ∷ 8 ∷ 8 ∷ 8 ∷ 8 ∷ 8 ∷ 8 ∷ 8 ∷ []
+
 unfoldable pub answer : List ℕ → Asked → List ℕ
 answer x border = T.tabulate (T.borderRow x) (length x)
 answer x prefix = T.tabulate (T.prefixRow x) (length x)
@@ -60,6 +74,7 @@ answer x bestRefused = A.bestPatternNo x ∷ []
 answer x ceiling = let c = C.ceilingAnswer x in c .number ∷ c .held ∷ c .ceiling ∷ []
 answer x (weighed i) = W.weighed eqb x i
 answer x (limit i) = W.limit i ∷ []
+answer x (test i q) = tested (A.coverTestAnswer x i q)
 answer x (times i q) = L.times eqb x i q ∷ []
 answer x (windowRefused a m) = windowed x a m .answer .number ∷ []
 answer x (window a m k) = getD (windowed x a m .tables) k []
@@ -142,6 +157,11 @@ rows =
     ∷ (covers gives 3 ∷ 28 ∷ [])
     ∷ (breakdown gives 28 ∷ 13 ∷ 5 ∷ 1 ∷ [])
     ∷ (weighed 28 gives 3 ∷ 1 ∷ [])
+    ∷ (test 28 28 gives 0 ∷ 1 ∷ [])
+    ∷ (test 13 3 gives 0 ∷ 1 ∷ [])
+    ∷ (test 3 13 gives 3 ∷ 0 ∷ [])
+    ∷ (test 28 3 gives 0 ∷ 1 ∷ [])
+    ∷ (test 28 13 gives 0 ∷ 0 ∷ [])
     ∷ [])
     ∷ row "left" (bytes "abaabab")
     ((times 7 2 gives 3 ∷ [])
@@ -158,8 +178,17 @@ rows =
     ∷ (leftSeed gives 0 ∷ 0 ∷ 1 ∷ 1 ∷ 2 ∷ 3 ∷ 3 ∷ 3 ∷ [])
     ∷ (seedCount gives 0 ∷ 0 ∷ 2 ∷ 3 ∷ 4 ∷ 6 ∷ 7 ∷ 8 ∷ [])
     ∷ [])
+    ∷ row "three cycles of forty" (forty ++ forty ++ forty)
+    ((test 80 40 gives 0 ∷ 1 ∷ [])
+    ∷ (test 120 80 gives 0 ∷ 1 ∷ [])
+    ∷ (test 120 40 gives 0 ∷ 1 ∷ [])
+    ∷ (test 120 60 gives 0 ∷ 0 ∷ [])
+    ∷ [])
     ∷ row "flat" (flat 6)
-    ((leftCover gives 0 ∷ 1 ∷ 1 ∷ 1 ∷ 1 ∷ 1 ∷ [])
+    ((test 6 4 gives 0 ∷ 1 ∷ [])
+    ∷ (test 4 1 gives 0 ∷ 1 ∷ [])
+    ∷ (test 6 1 gives 0 ∷ 1 ∷ [])
+    ∷ (leftCover gives 0 ∷ 1 ∷ 1 ∷ 1 ∷ 1 ∷ 1 ∷ [])
     ∷ (leftCount gives 0 ∷ 2 ∷ 3 ∷ 4 ∷ 5 ∷ 6 ∷ [])
     ∷ (leftSeed gives 0 ∷ 1 ∷ 1 ∷ 1 ∷ 1 ∷ 1 ∷ [])
     ∷ (seedCount gives 0 ∷ 2 ∷ 3 ∷ 4 ∷ 5 ∷ 6 ∷ [])
