@@ -26,6 +26,16 @@ fn small_windows(t: Tally) -> Tally {
     small::logs(c, small::WINDOWS, b"\x00\xff\x14", 5)
 }
 
+fn orders(t: Tally) -> Tally {
+    let a = t.begin(b"all logs over 2 letters to 12, the order among patterns:");
+    let b = small::logs(a, small::ORDER, b"\x00\xff", 12);
+    let c = b.begin(b"all logs over 3 letters to 8, the order among patterns:");
+    let d = small::logs(c, small::ORDER, b"\x00\xff\x14", 8);
+    trial_order::kinds(d.begin(
+        b"flat, Fibonacci word, cycle of 40, the same with defects, runs and random, 120 readings of each, the order among patterns:",
+    ))
+}
+
 fn some_files(t: Tally) -> Tally {
     let a = t.begin(b"all files of up to 6 bytes of 5 values:");
     let b = small::files(a, b"\x01\x00\x02\x14\x15", 6);
@@ -57,6 +67,6 @@ fn long_logs(t: Tally) -> Tally {
 }
 
 fn main() {
-    let a = small_windows(small_logs(Tally::new()));
+    let a = orders(small_windows(small_logs(Tally::new())));
     long_logs(about_the_ceiling(some_files(a))).close();
 }

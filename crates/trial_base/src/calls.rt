@@ -1,4 +1,5 @@
 // The calls, as numbers. A table's row is named by its column, in a window by the column and 10.
+use crate::line::number;
 use crate::line::say;
 
 pub const BORDER: u8 = 1;
@@ -43,6 +44,9 @@ pub const LEFT_SEED: u8 = 41;
 
 pub const LEFT_SEED_COUNT: u8 = 42;
 
+// The order among patterns: a sentence of it is named by its number after this.
+pub const ORDER: u8 = 50;
+
 // Which of the two tables of a call.
 fn table(whole: bool, call: u8) -> bool {
     match call {
@@ -84,6 +88,9 @@ fn answer(whole: bool, call: u8) -> bool {
 
 // Prints the name.
 pub fn name(whole: bool, call: u8) -> bool {
+    if ORDER <= call {
+        return number(say(whole, b" cover_test, sentence"), (call - ORDER) as u64);
+    }
     if LEFT_COVERS <= call {
         return left(whole, call);
     }

@@ -10,7 +10,9 @@ pub const HELD_SMALL: u8 = 1;
 
 pub const WINDOWS: u8 = 2;
 
-const FILES: u8 = 3;
+pub const ORDER: u8 = 3;
+
+const FILES: u8 = 4;
 
 // What stands in a table before a call: numbers that no answer has, or such as answers have.
 pub const STRANGE: u16 = 50000;
@@ -75,6 +77,7 @@ fn one(t: Tally, what: u8, x: &[u8]) -> Tally {
         EVERY_CALL => every_call(t, Way::whole(STRANGE), x),
         HELD_SMALL => every_call(t, Way::whole(SMALL), x),
         WINDOWS => windows(t, x),
+        ORDER => trial_order::all(t.more(), x),
         _ => trial_files::compare(t.more(), x),
     }
 }

@@ -9,8 +9,9 @@ use words::CoverTest;
 use words::Listed;
 use words::wide;
 
-fn accepts(x: &[u8], q: usize) -> bool {
-    match finder::cover_test(x, x.len(), q) {
+// The cover test answers yes.
+pub fn accepts(x: &[u8], i: usize, q: usize) -> bool {
+    match finder::cover_test(x, i, q) {
         CoverTest::Yes => true,
         CoverTest::No => false,
         CoverTest::Refused(_) => false,
@@ -22,7 +23,7 @@ fn accepted_after(x: &[u8], q: usize) -> usize {
     let mut p = q;
     while p < x.len() {
         p += 1;
-        if accepts(x, p) {
+        if accepts(x, x.len(), p) {
             return p;
         }
     }
