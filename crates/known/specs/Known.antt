@@ -1,4 +1,4 @@
--- The strings with known results, P1 to P8, those of left covers and left seeds, and logs at the edges of held, as one table: for each log what is asked of it, and the result. Assumes nothing.
+-- The strings with known results, P1 to P8, those of left covers and left seeds, three cycles of forty, and logs at the edges of held, as one table: for each log what is asked of it, and the result. Assumes nothing.
 use mathlib.Core.List.{List, [], _∷_, _++_, map}
 use Prim.Native.Nat.{ℕ}
 use Prim.Native.String.{String}

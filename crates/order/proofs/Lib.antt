@@ -1,3 +1,3 @@
 mod Answers
-mod Order
-mod Calls
+pub mod Order
+pub mod Calls

@@ -36,15 +36,13 @@ order x z = record {
 
 module _ (x : List ℕ) (o : Order x) (i : ℕ) where
   chain : Chain x i
-  chain = record {
-    either = λ q r a b. ⊎-elim (λ h. inl (o .nested q r i a b h)) (λ h. inr (o .nested r q i b a (omega arith))) (le-or-lt q r);
-  }
+  chain q r a b = ⊎-elim (λ h. inl (o .nested q r i a b h)) (λ h. inr (o .nested r q i b a (omega arith))) (le-or-lt q r)
 
   chain-list : (l : List ℕ) → Rising (λ q. coverTestAnswer x i q ≡ Yes) l → ChainList x i l
   chain-list l s = record {
     all = s;
-    before = λ j k a h. upTo j k (omega arith) h;
-    shortest = λ k m h c. o .through (getD l 0 0) (getD l k 0) m (upTo 0 k (omega arith) h) c;
+    before = λ j k a h. onto j k (omega arith) h;
+    shortest = λ k m h c. o .through (getD l 0 0) (getD l k 0) m (onto 0 k (omega arith) h) c;
   }
     where
       rises : (j k : ℕ) → j ≤ k → k < length l → getD l j 0 ≤ getD l k 0
@@ -53,11 +51,11 @@ module _ (x : List ℕ) (o : Order x) (i : ℕ) where
           (λ (b : j < k). omega (arith, listing-before (λ a b. a < b) (λ a b c h l. omega arith) (λ q. coverTestAnswer x i q ≡ Yes) l s j k b h))
           (eq-or-lt-of-le a)
 
-      upTo : (j k : ℕ) → j ≤ k → k < length l → coverTestAnswer x (getD l k 0) (getD l j 0) ≡ Yes
-      upTo j k a h = o .nested (getD l j 0) (getD l k 0) i (s .only j (omega arith)) (s .only k h) (rises j k a h)
+      onto : (j k : ℕ) → j ≤ k → k < length l → coverTestAnswer x (getD l k 0) (getD l j 0) ≡ Yes
+      onto j k a h = o .nested (getD l j 0) (getD l k 0) i (s .only j (omega arith)) (s .only k h) (rises j k a h)
 
 pub order-chain : Chained
-order-chain x z i = chain x (order x z) i
+order-chain x z = chain x (order x z)
 
 -- ---- the list of covers, as the call leaves it
 
@@ -68,6 +66,7 @@ cover-chain x z = chain-list x (order x z) (length x) (coverList eqb x) record {
   order = coverList-rises eqb x;
 }
 
+-- where the call is accepted, so is the log
 table-log : (n : ℕ) (rs : List ℕ) → tableNo n rs ≡ 0 → logNo n ≡ 0
 unfolding tableNo
 table-log n rs z = ⊎-elim (λ h. h) (λ (h : 0 < logNo n). log-refused n _ _ refl (λ y. omega arith) ∙ z) (eq-zero-or-pos (logNo n))

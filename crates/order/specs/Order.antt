@@ -28,8 +28,8 @@ module _ (x : List ℕ) where
     pub nested : (q r i : ℕ) → q covers i → r covers i → q ≤ r → q covers r
 
   -- The covers of one prefix form a chain: of any two, one covers the other
-  pub record Chain (i : ℕ) : Type 0 where
-    pub either : (q r : ℕ) → q covers i → r covers i → (q covers r) ⊎ (r covers q)
+  abbrev pub Chain : ℕ → Type 0
+  Chain i = (q r : ℕ) → q covers i → r covers i → (q covers r) ⊎ (r covers q)
 
   -- The list l is that chain
   pub record ChainList (i : ℕ) (l : List ℕ) : Type 0 where
@@ -40,7 +40,7 @@ module _ (x : List ℕ) where
     -- the shortest entry covers every prefix that any entry covers
     pub shortest : (k m : ℕ) → k < length l → getD l k 0 covers m → getD l 0 0 covers m
 
--- ---- what is proved. The premise is that the log is accepted, of the list that the call is, and nothing more
+-- ---- what is proved. The premise is that the log is accepted, for the list that its call is, and nothing more
 
 abbrev pub Ordered : Type 0
 Ordered = (x : List ℕ) → logNo (length x) ≡ 0 → Order x
