@@ -1,4 +1,6 @@
 // Floor 2: the two tables that the others are made from, in arrays that are lent.
+#![tactic(auto)]
+
 ghost use Rattle.std.specs.Prelude.{◌≡◌, ◌≤◌, length};
 ghost use Rattle.words.specs.Tables.{border_row, cover_row, written};
 ghost use Rattle.words.proofs.Tables.{Room, Holds};

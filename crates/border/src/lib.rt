@@ -1,4 +1,6 @@
 // Floor 2: the border table of a log, by the failure function.
+#![tactic(auto)]
+
 ghost use Rattle.std.specs.Prelude.{◌≡◌, ◌-◌, ◌<◌, length, get_or};
 ghost use Rattle.words.specs.Tables.{border_row, written};
 ghost use Rattle.words.proofs.Tables.{Room, Filled};

@@ -1,4 +1,6 @@
 // Floor 4: the C face. Each call of floor 3 under a C name, with the same promise; a part is answered as its start and its length.
+#![tactic(auto)]
+
 ghost use Rattle.std.specs.Prelude.{◌≡◌, [], ◌∷◌};
 ghost use Rattle.words.specs.Tables.{border_row, prefix_row, cover_row};
 ghost use Rattle.words.specs.Answers as Answers;
@@ -8,7 +10,7 @@ ghost use Rattle.cabinet.specs.Faces.{covers_of, pattern_span, file_span};
 
 // The cover test: covers is 1 for yes and 0 for no, and 0 where the call is refused.
 #[repr(C)]
-#[derive(Drop)]
+#[derive(Clone, Copy)]
 pub struct Covers {
     pub number: u8,
     pub covers: u8,
@@ -16,7 +18,7 @@ pub struct Covers {
 
 // A part of the caller's bytes: so many readings skipped, so many in it.
 #[repr(C)]
-#[derive(Drop)]
+#[derive(Clone, Copy)]
 pub struct Span {
     pub number: u8,
     pub start: usize,

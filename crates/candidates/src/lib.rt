@@ -1,4 +1,6 @@
 // Floor 2: the patterns that can be a left seed. Only those that have no proper cover can, and each is weighed with its longest start that ends the prefix.
+#![tactic(auto)]
+
 ghost use Rattle.std.specs.Prelude.{◌≡◌, ◌≤◌, ◌<◌, eqb, length};
 ghost use Rattle.words.specs.Words as Words;
 ghost use Rattle.words.specs.Tables.{border_row, cover_row, written};
@@ -11,7 +13,7 @@ ghost use Rattle.repeats.proofs.LeftSeeds.{Bare};
 ghost use Rattle.candidates.specs.Candidates.{bare_row, fall_row, Sown, Far, Ready, Taken};
 
 // The left seed of a prefix: its length, the positions that it reaches, and its longest start that ends the prefix.
-#[derive(Drop)]
+#[derive(Clone, Copy)]
 pub struct Seed {
     pub len: usize,
     pub count: usize,

@@ -1,4 +1,6 @@
 // Floor 2: how a log stands to the ceiling: how many of its readings are at it, and whether the head is held there now. The definitions stand in specs/.
+#![tactic(auto)]
+
 ghost use Rattle.std.specs.Prelude.{◌≡◌, cond, ◌+◌, ◌≤◌, eqb, length};
 ghost use Rattle.words.specs.Refusals.{longest};
 ghost use Rattle.words.specs.PlantFile.{ceiling_symbol};
@@ -9,7 +11,7 @@ pub const RECENT: usize = 60;
 
 // held is 1 where the head is held at the ceiling now, else 0; ceiling is how many readings are at it.
 #[repr(C)]
-#[derive(Drop)]
+#[derive(Clone, Copy)]
 pub struct Ceiling {
     pub number: u8,
     pub held: u8,

@@ -1,6 +1,8 @@
 // Floor 4: the sheet of a picture, and on it the readings with the occurrences of the best pattern below them.
 //
 // The sheet is 1200 wide and 876 high, and is to be read at half that size too. Every text has room for the widest common letters, those of DejaVu Sans.
+#![tactic(auto)]
+
 ghost use Rattle.std.specs.Prelude.{◌≤◌, ◌<◌, length};
 ghost use Rattle.words.specs.Refusals.{longest};
 

@@ -1,4 +1,6 @@
 // Floor 2: the cover table of a log, on line, by the tree of longest proper covers (specs/Tree).
+#![tactic(auto)]
+
 ghost use Rattle.std.specs.Prelude.{◌≡◌, ◌+◌, ◌-◌, ◌≤◌, length};
 ghost use Rattle.words.specs.Tables.{border_row, cover_row, written};
 ghost use Rattle.words.specs.Refusals.{longest};

@@ -1,4 +1,6 @@
 // Floor 2: one cover tested, and all covers listed.
+#![tactic(auto)]
+
 ghost use Rattle.std.specs.Prelude.{◌≡◌, ◌++◌, cond, ◌+◌, ◌≤◌, ◌<◌, eqb, leb, length, drop};
 ghost use Rattle.words.specs.Words.{covers, cover_list};
 ghost use Rattle.words.specs.Tables.{prefix_row, cover_row};

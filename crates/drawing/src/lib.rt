@@ -1,4 +1,6 @@
 // Floor 4: a log as a picture, in SVG of a fixed size, whatever the log's length.
+#![tactic(auto)]
+
 use pen::{Pen, put, say};
 use words::wide;
 

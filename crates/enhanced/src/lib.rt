@@ -1,4 +1,6 @@
 // Floor 2: the enhanced table of a log.
+#![tactic(auto)]
+
 ghost use Rattle.std.specs.Prelude.{◌≡◌, length, eqb};
 ghost use Rattle.words.specs.Words.{total};
 ghost use Rattle.words.specs.Tables.{border_row, cover_row, best_row, count_row, written};

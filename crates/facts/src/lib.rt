@@ -1,4 +1,6 @@
 // Floor 4: the report on an accepted log, as one text in a lent buffer.
+#![tactic(auto)]
+
 ghost use Rattle.std.specs.Prelude.{◌+◌, ◌*◌, ◌≤◌, length};
 ghost use Rattle.words.specs.Refusals.{longest};
 ghost use Rattle.words.specs.Answers.{weighed_places};

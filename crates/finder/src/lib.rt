@@ -1,4 +1,6 @@
 // Floor 3: the calls. Each takes every log and every lent table, refuses in the order of `refusals`, and hands an accepted log to floor 2.
+#![tactic(auto)]
+
 ghost use Rattle.std.specs.Prelude.{◌≡◌, [], ◌∷◌, length};
 ghost use Rattle.words.specs.Tables.{border_row, prefix_row, cover_row};
 ghost use Rattle.words.specs.Refusals.{table_no};

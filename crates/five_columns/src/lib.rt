@@ -1,4 +1,6 @@
 // Floor 2, on top: all five columns of a log, in the caller's tables.
+#![tactic(auto)]
+
 ghost use Rattle.std.specs.Prelude.{◌≡◌, eqb, length};
 ghost use Rattle.words.specs.Words as Words;
 ghost use Rattle.words.specs.Tables.{border_row, prefix_row, cover_row, best_row, count_row, written};

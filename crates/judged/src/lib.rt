@@ -1,4 +1,6 @@
 // Floor 2, on top: a log that is accepted, judged as a whole, with work arrays of its own.
+#![tactic(auto)]
+
 ghost use Rattle.std.specs.Prelude.{◌≡◌, ◌++◌, ◌≤◌, ◌<◌, eqb, length, drop};
 ghost use Rattle.words.specs.Words as Words;
 ghost use Rattle.words.specs.Tables.{cover_row, best_row, count_row, written};

@@ -1,3 +1,5 @@
+#![tactic(auto)]
+
 fn main() {
     left_text::left(0);
 }

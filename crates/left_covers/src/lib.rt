@@ -1,4 +1,6 @@
 // Floor 2: the left covers of a log, as the best so far of its enhanced table.
+#![tactic(auto)]
+
 ghost use Rattle.std.specs.Prelude.{◌≡◌, ◌<◌, length, get_or, set};
 ghost use Rattle.words.specs.Tables.{best_row, count_row, written};
 ghost use Rattle.words.proofs.Tables.{Room, Holds};

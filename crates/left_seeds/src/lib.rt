@@ -1,4 +1,6 @@
 // Floor 2: the left seeds of a log, row by row.
+#![tactic(auto)]
+
 ghost use Rattle.std.specs.Prelude.{◌≡◌, ◌+◌, length, get_or, set};
 ghost use Rattle.words.specs.Tables.{cover_row, written};
 ghost use Rattle.words.proofs.Tables.{Room, Holds, Filled};

@@ -1,4 +1,6 @@
 // Floor 4: the body of the program `left`: a line for each reading, with its left cover and its left seed. The text is written once.
+#![tactic(auto)]
+
 ghost use Rattle.std.specs.Prelude.{[], ◌∷◌, ◌+◌, ◌≤◌, length, get_or};
 ghost use Rattle.words.proofs.Refusals.{Judged};
 ghost use Rattle.lines.specs.Text.{decimal, line, Put, Says};

@@ -1,4 +1,6 @@
 // Floor 4: what stands around the chart: the band under the picture's title, and the report below.
+#![tactic(auto)]
+
 ghost use Rattle.std.specs.Prelude.{◌≤◌, ◌<◌, length};
 ghost use Rattle.words.specs.Refusals.{longest};
 
@@ -6,7 +8,7 @@ use ceilings::Ceiling;
 use pen::{Pen, put, say};
 
 // The numbers of the report, but for its lists.
-#[derive(Drop)]
+#[derive(Clone, Copy)]
 pub struct Numbers {
     pub k1: u16,
     pub k2: u16,

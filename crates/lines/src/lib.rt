@@ -1,5 +1,7 @@
 // Floor 4: lines of text, made in a lent buffer. `at` is how much of the buffer the text takes so far; each function puts something behind it and returns
 // where the text ends now.
+#![tactic(auto)]
+
 ghost use Rattle.std.specs.Prelude.{◌≡◌, [], ◌∷◌, ◌+◌, ◌*◌, ◌≤◌, ◌<◌, length};
 ghost use Rattle.std.proofs.Math.Seq.{paste};
 ghost use Rattle.lines.specs.Text as Text;

@@ -1,5 +1,7 @@
 // Floor 4: writes what every call answers on a short log, a line a column or an answer. Each function answers whether all that it had to say was written;
 // where it was not, nothing more is said.
+#![tactic(auto)]
+
 ghost use Rattle.std.specs.Prelude.{◌≤◌, length};
 
 // The entries of each table, which bound the logs that are printed whole, and the room for a line of them all.

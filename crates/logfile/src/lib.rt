@@ -1,4 +1,6 @@
 // Floor 3: the plant's file.
+#![tactic(auto)]
+
 ghost use Rattle.std.specs.Prelude.{◌≡◌, ◌+◌, ◌*◌, ◌≤◌, length};
 ghost use Rattle.words.specs.PlantFile as PlantFile;
 ghost use Rattle.logfile.specs.Place.{unknown_symbol, part_place};

@@ -1,4 +1,6 @@
 // Floor 2: how a pattern lies in a log, and runs of one symbol: what a picture shows.
+#![tactic(auto)]
+
 ghost use Rattle.std.specs.Prelude.{◌≡◌, ◌+◌, ◌≤◌, ◌<◌, eqb, length, get_or};
 ghost use Rattle.words.specs.Words.{occurs as Words·occurs};
 ghost use Rattle.words.specs.Tables.{written};
@@ -38,7 +40,7 @@ const INSIDE: u8 = 1;
 pub const OUTSIDE: u8 = 0;
 
 // The mark, and how far the occurrences up to the reading reach.
-#[derive(Drop)]
+#[derive(Clone, Copy)]
 pub struct Marked {
     pub mark: u8,
     pub reach: usize,

@@ -1,4 +1,6 @@
 // Floor 4: standard output. What a program has made is written whole, or a line on standard error says that it was not; then the program is to stop.
+#![tactic(auto)]
+
 ghost use Rattle.std.specs.Prelude.{false, ◌≡◌};
 
 // Writes the text and answers whether all of it was taken. A piece that was taken in part is written on to its end.

@@ -1,4 +1,6 @@
 // Floor 2: normal forms and breakdowns, from the border table.
+#![tactic(auto)]
+
 ghost use Rattle.std.specs.Prelude.{◌≡◌, ◌≤◌, ◌<◌, eqb, length};
 ghost use Rattle.words.specs.Words as Words;
 ghost use Rattle.words.specs.Tables.{border_row};

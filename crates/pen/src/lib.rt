@@ -1,11 +1,13 @@
 // Floor 4: a text made in a lent buffer, piece behind piece, to be written at once. A pen stands behind the last piece.
 //
 // What does not fit is not put, and neither is anything after it: a text is whole or it is none. So nobody has to show beforehand that there is room.
+#![tactic(auto)]
+
 ghost use Rattle.std.specs.Prelude.{◌≡◌, length};
 ghost use Rattle.pen.specs.Pens as Pens;
 
 // Where the text ends, and whether every piece has been put.
-#[derive(Drop)]
+#[derive(Clone, Copy)]
 pub struct Pen {
     pub at: usize,
     pub fits: bool,

@@ -1,4 +1,6 @@
 // Draws each file that an argument names, and stops at the first piece that cannot be written.
+#![tactic(auto)]
+
 fn draw(path: &[u8]) -> bool {
     let from = os::open_read(path);
     if from < 0 {

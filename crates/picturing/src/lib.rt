@@ -1,4 +1,6 @@
 // Floor 4: from a plant's file to its picture.
+#![tactic(auto)]
+
 ghost use Rattle.std.specs.Prelude.{length};
 ghost use Rattle.words.proofs.Refusals.{Judged};
 

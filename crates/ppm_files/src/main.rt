@@ -1,5 +1,7 @@
 // Makes the file of each text that an argument names. Prints what is said of the text, or the length of the file and its first bytes. A function that
 // prints answers whether all of it was written.
+#![tactic(auto)]
+
 ghost use Rattle.std.specs.Prelude.{◌≤◌};
 
 fn print_byte(b: u8) -> bool {

@@ -1,16 +1,18 @@
 // Floor 2: what one line of a text of readings says.
+#![tactic(auto)]
+
 ghost use Rattle.std.specs.Prelude.{true, ◌≡◌, List, [], ◌∷◌, ℕ, ◌+◌, min};
 ghost use Rattle.ppm_line.specs.Lines.{symbol_of, blank, digit, no_digits, longer, of_number, after_number, after_digits, says, says_after};
 
 // The digits of a line's number: how many, counted to seven, and the value of the last six.
-#[derive(Drop)]
+#[derive(Clone, Copy)]
 pub struct Number {
     pub digits: u8,
     pub ppm: u32,
 }
 
 // What the first bytes of a line amount to.
-#[derive(Drop)]
+#[derive(Clone, Copy)]
 pub enum Line {
     Blank,
     Remark,
@@ -20,7 +22,7 @@ pub enum Line {
 }
 
 // What a whole line says.
-#[derive(Drop)]
+#[derive(Clone, Copy)]
 pub enum Said {
     Nothing,
     Reading(u32),

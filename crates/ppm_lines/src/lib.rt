@@ -1,11 +1,13 @@
 // Floor 4: from a text of readings in whole ppm, one a line, to the plant's file.
+#![tactic(auto)]
+
 ghost use Rattle.ppm_text.specs.Texts.{Made};
 ghost use Rattle.ppm_text.specs.States.{Room, After, Holds};
 
 use ppm_text::{Fault, State};
 
 // How the input stands after a read.
-#[derive(Drop)]
+#[derive(Clone, Copy)]
 pub enum Input {
     More,
     End,
@@ -13,7 +15,7 @@ pub enum Input {
 }
 
 // The state of the reading, and of the input.
-#[derive(Drop)]
+#[derive(Clone, Copy)]
 pub struct Reading {
     pub state: State,
     pub input: Input,
@@ -96,7 +98,7 @@ fn say_fault(to: i32, f: Fault, number: u64) -> bool {
 }
 
 // The length of the file that was made, 0 where something is wrong; and whether that could be said.
-#[derive(Drop)]
+#[derive(Clone, Copy)]
 pub struct Making {
     pub len: usize,
     pub said: bool,

@@ -1,4 +1,6 @@
 // Floor 2: a text of readings, taken byte by byte, and the plant's file that is made of it.
+#![tactic(auto)]
+
 ghost use Rattle.std.specs.Prelude.{◌≡◌, [], ◌∷◌};
 ghost use Rattle.ppm_line.specs.Lines.{says_after};
 ghost use Rattle.ppm_text.specs.Texts.{next_number};
@@ -7,7 +9,7 @@ ghost use Rattle.ppm_text.specs.States.{Room, is_fault, start_state, stop_at, li
 use ppm_line::{Line, Said};
 
 // What is wrong with a text.
-#[derive(Drop)]
+#[derive(Clone, Copy)]
 pub enum Fault {
     Nothing,
     NoNumber,
@@ -17,7 +19,7 @@ pub enum Fault {
 }
 
 // How far a text has been read: its present line, that line's number from 1, the readings before it, and what is wrong.
-#[derive(Drop)]
+#[derive(Clone, Copy)]
 pub struct State {
     pub line: Line,
     pub number: u64,

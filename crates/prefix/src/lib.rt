@@ -1,4 +1,6 @@
 // Floor 2: the prefix table of a log, by the stretch known to occur that reaches furthest right.
+#![tactic(auto)]
+
 ghost use Rattle.std.specs.Prelude.{◌≡◌, ◌+◌, ◌<◌, eqb, length, get_or};
 ghost use Rattle.words.specs.Tables.{prefix_row, written};
 ghost use Rattle.words.proofs.Tables.{Room, Filled};
@@ -6,7 +8,7 @@ ghost use Rattle.words.proofs.Prefixes.{Reaches};
 ghost use Rattle.prefix.specs.Stretch.{Stretch, Reached};
 
 // A row, and the stretch after it: the readings of x from `from` up to `to` are its first ones again.
-#[derive(Drop)]
+#[derive(Clone, Copy)]
 struct Reach {
     row: usize,
     from: usize,

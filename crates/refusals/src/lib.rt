@@ -1,4 +1,6 @@
 // Floor 3: the numbers that say no, each test in its order. 0 says that no test passed.
+#![tactic(auto)]
+
 ghost use Rattle.std.specs.Prelude.{◌≡◌, [], ◌∷◌, min};
 ghost use Rattle.words.specs.Refusals.{log_no, table_no, prefix_no, cover_test_no, best_no, window_no};
 

@@ -1,8 +1,10 @@
 // Floor 1: patterns that need not end the log. The definitions of left covers and left seeds stand in specs/, the laws about them in proofs/.
+#![tactic(auto)]
+
 ghost use Rattle.repeats.specs.Better.{Won, Better};
 
 // A pattern's length, and the positions that it accounts for. Both are 0 where there is none.
-#[derive(Drop)]
+#[derive(Clone, Copy)]
 pub struct Found {
     pub len: usize,
     pub count: usize,

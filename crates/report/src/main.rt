@@ -1,3 +1,5 @@
+#![tactic(auto)]
+
 fn main() {
     reporting::report(0);
 }

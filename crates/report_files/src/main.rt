@@ -1,4 +1,5 @@
 // Writes the report on each file that an argument names, after the file's name.
+#![tactic(auto)]
 
 // Whether all of it was written.
 fn report_on(k: usize) -> bool {

@@ -1,4 +1,6 @@
 // Floor 4: the bodies of the programs `report` and `rows`. A file's way: bytes, number, symbols, answers, text; the text is written once.
+#![tactic(auto)]
+
 pub mod table;
 
 ghost use Rattle.std.specs.Prelude.{◌≤◌, length};

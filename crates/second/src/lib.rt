@@ -2,6 +2,8 @@
 // position is marked. It is slow on purpose and shares nothing with the finder, so that a fault would have to be made twice to stay unseen.
 //
 // i, q and m are lengths of prefixes of the log x. j is a number of readings skipped, from 0.
+#![tactic(auto)]
+
 ghost use Rattle.std.specs.Prelude.{◌≤◌};
 
 const LONGEST: usize = 4096;
@@ -190,7 +192,7 @@ pub fn best(x: &[u8], i: usize) -> usize {
 }
 
 // A normal form with its length.
-#[derive(Drop)]
+#[derive(Clone, Copy)]
 pub struct Form {
     pub len: usize,
     pub k1: usize,

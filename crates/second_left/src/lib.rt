@@ -1,5 +1,7 @@
 // A second way to the left covers and left seeds, straight from the definitions as `second` goes it: every length is tried, and every covered position
 // is marked.
+#![tactic(auto)]
+
 use second::{covered, mark_occurrence, mark_occurrences, marked, occurs};
 
 const LONGEST: usize = 4096;
@@ -60,7 +62,7 @@ fn worth(x: &[u8], i: usize, q: usize, seeds: bool) -> usize {
 }
 
 // A pattern, and how many positions it covers.
-#[derive(Drop)]
+#[derive(Clone, Copy)]
 pub struct Left {
     pub best: usize,
     pub count: usize,

@@ -1,5 +1,7 @@
 // The number that each call answers, worked out a second time: 0, or that of the first refusal that applies.
 // n is the log's length, room the length of the shortest table that is lent.
+#![tactic(auto)]
+
 pub mod plant;
 
 const LONGEST: usize = 4096;

@@ -1,5 +1,7 @@
 // Floor 2: how a prefix stands, from how the prefix one reading shorter does. A seed that goes on, or a pattern that ends there, mostly decides; else the
 // candidates are weighed.
+#![tactic(auto)]
+
 ghost use Rattle.std.specs.Prelude.{◌≡◌, ◌+◌, ◌≤◌, ◌<◌, max, length};
 ghost use Rattle.tallies.specs.Tallies.{Tallies, Judgement};
 ghost use Rattle.candidates.specs.Candidates.{Sown};
@@ -10,7 +12,7 @@ use repeats::Found;
 use tallies::Pick;
 
 // How a prefix stands: its left seed, its left cover, and the longest prefix that repeats in it.
-#[derive(Drop)]
+#[derive(Clone, Copy)]
 pub struct Standing {
     pub seed: Seed,
     pub left: Found,

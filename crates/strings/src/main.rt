@@ -1,4 +1,6 @@
 // Writes what every call answers on the strings with known results, P1 to P8 and those of left covers and left seeds; then the windows of P6, and logs at the edges of held.
+#![tactic(auto)]
+
 ghost use Rattle.std.specs.Prelude.{◌≤◌, length};
 
 fn string(name: &[u8], x: &[u8]) -> bool

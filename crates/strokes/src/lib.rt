@@ -3,6 +3,8 @@
 // Places are whole numbers, in hundredths of a pixel from the upper left corner of the plot.
 // The plot is 100000 wide, one reading beside the other, and 33000 high: 1500 for each hundred ppm, up to 2200 ppm.
 // Below it lie two lanes for the occurrences of the best pattern and one for the readings that it does not cover.
+#![tactic(auto)]
+
 ghost use Rattle.std.specs.Prelude.{◌<◌, ◌≤◌, length};
 
 use pen::{Pen, put, say};

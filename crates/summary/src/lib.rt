@@ -1,4 +1,6 @@
 // Floor 2, on top: what a program says of a whole log, every table made once.
+#![tactic(auto)]
+
 ghost use Rattle.std.specs.Prelude.{◌≡◌, ◌++◌, ◌≤◌, ◌<◌, eqb, length, drop};
 ghost use Rattle.words.specs.Words.{cover_list};
 ghost use Rattle.words.specs.Tables.{border_row, cover_row, written};
@@ -8,7 +10,7 @@ ghost use Rattle.cover.specs.Tree.{Blank};
 ghost use Rattle.summary.specs.Whole.{outline_of, summary_of, Made};
 
 // The normal form, Best and Count of the whole log, how many covers it has, and its weighed list.
-#[derive(Drop)]
+#[derive(Clone, Copy)]
 pub struct Summary {
     pub normal: words::Part,
     pub best: u16,
@@ -18,7 +20,7 @@ pub struct Summary {
 }
 
 // The part of a summary that the border and the cover table say.
-#[derive(Drop)]
+#[derive(Clone, Copy)]
 pub struct Outline {
     pub normal: words::Part,
     pub covers: usize,

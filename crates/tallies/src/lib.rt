@@ -1,4 +1,6 @@
 // Floor 2: one row of the enhanced table. Only the weighed borders of a prefix are walked, each with its last end and its count kept.
+#![tactic(auto)]
+
 ghost use Rattle.std.specs.Prelude.{◌≡◌, ◌+◌, ◌-◌, ◌*◌, ◌≤◌, ◌<◌, min, length, get_or, set, eqb};
 ghost use Rattle.words.specs.Words.{covered};
 ghost use Rattle.words.specs.Tables.{border_row, cover_row};
@@ -9,7 +11,7 @@ ghost use Rattle.words.proofs.Weighs.{heaviest_row};
 ghost use Rattle.tallies.specs.Tallies.{most_weighed, Flags, Tallies, Round, Better, Judgement};
 
 // The best of the borders weighed so far, the positions that it covers, and how many were weighed, those of the rows before counted in.
-#[derive(Drop)]
+#[derive(Clone, Copy)]
 pub struct Pick {
     pub best: usize,
     pub count: usize,

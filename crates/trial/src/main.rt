@@ -1,5 +1,7 @@
 // Compares every call with the second way to its answer. One line for each kind of comparison, and the differences of all kinds in the last. Where a piece
 // cannot be written, standard error says so, and no more is compared.
+#![tactic(auto)]
+
 use trial_base::logs::{CYCLE, DEFECTS, FIBONACCI, FLAT, RANDOM, RUNS};
 use trial_base::tally::Tally;
 use trial_runs::{long, small};

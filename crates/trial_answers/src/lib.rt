@@ -1,4 +1,6 @@
 // Holds each call that only answers, on one log, to the second way.
+#![tactic(auto)]
+
 use second::Form;
 use trial_base::calls;
 use trial_base::tally::Tally;

@@ -3,7 +3,7 @@ use crate::calls;
 use crate::line::{decimal, number, say};
 
 // `before` is how much of the kinds before differed, and `whole` whether all of the output was written.
-#[derive(Drop)]
+#[derive(Clone, Copy)]
 pub struct Tally {
     pub tried: u64,
     pub compared: u64,

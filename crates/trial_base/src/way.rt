@@ -1,5 +1,5 @@
 // How a call is tried: what stands in a lent table before it, and at which rows its answers are held to the second way.
-#[derive(Drop)]
+#[derive(Clone, Copy)]
 pub struct Way {
     pub was: u16,
     pub first: usize,

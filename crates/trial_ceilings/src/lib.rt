@@ -1,4 +1,6 @@
 // Holds what is said of the ceiling to the second way, on logs that are at it but for two readings at most.
+#![tactic(auto)]
+
 use trial_base::tally::Tally;
 
 const MOST: usize = 124;

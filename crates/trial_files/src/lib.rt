@@ -1,4 +1,6 @@
 // Holds the file reader to the second way.
+#![tactic(auto)]
+
 use trial_base::calls;
 use trial_base::tally::Tally;
 

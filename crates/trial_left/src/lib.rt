@@ -1,4 +1,6 @@
 // Holds the left covers and left seeds of one log to the second way.
+#![tactic(auto)]
+
 use trial_base::calls;
 use trial_base::tally::Tally;
 use trial_base::way::{Way, fill};

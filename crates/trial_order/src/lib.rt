@@ -1,5 +1,7 @@
 // Holds the answers of the cover test on one log to the four sentences of the order among patterns. The sentences speak of the answers alone, so no second
 // way is asked. i, q and r are lengths of prefixes.
+#![tactic(auto)]
+
 use trial_base::calls;
 use trial_base::logs::{CYCLE, DEFECTS, FIBONACCI, FLAT, RANDOM, RUNS, write};
 use trial_base::tally::Tally;

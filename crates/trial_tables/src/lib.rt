@@ -1,4 +1,6 @@
 // Holds each call that writes tables, on one log, to the second way.
+#![tactic(auto)]
+
 pub mod columns;
 pub mod list;
 pub mod rows;

@@ -5,7 +5,7 @@ use trial_base::way::Way;
 use words::wide;
 
 // The rows after the first `from`, up to `to`: those that a call writes. They belong to the same readings of the log.
-#[derive(Drop)]
+#[derive(Clone, Copy)]
 pub struct Span {
     pub from: usize,
     pub to: usize,

@@ -1,4 +1,6 @@
 // Holds windows of one log to the second way.
+#![tactic(auto)]
+
 ghost use Rattle.std.specs.Prelude.{◌≤◌};
 
 use trial_base::calls;

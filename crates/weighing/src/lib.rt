@@ -1,4 +1,6 @@
 // Floor 2: the weighed list of a log, from its border and its cover table.
+#![tactic(auto)]
+
 ghost use Rattle.std.specs.Prelude.{◌≡◌, ◌≤◌, ◌<◌, eqb, length};
 ghost use Rattle.words.specs.Words as Words;
 ghost use Rattle.words.specs.Tables.{border_row, cover_row};

@@ -1,4 +1,6 @@
 // Floor 2, on top: a window of a log, judged as a log of its own, with its rows in the middle of the lent tables.
+#![tactic(auto)]
+
 ghost use Rattle.std.specs.Prelude.{◌≡◌, eqb};
 ghost use Rattle.words.specs.Words as Words;
 ghost use Rattle.words.specs.Tables.{border_row, prefix_row, cover_row, best_row, count_row, window, placed};

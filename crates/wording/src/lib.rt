@@ -1,4 +1,6 @@
 // Floor 4: how a picture says in words what it shows of the readings. The words stand in specs/.
+#![tactic(auto)]
+
 ghost use Rattle.std.specs.Prelude.{◌≤◌, length};
 ghost use Rattle.words.specs.Refusals.{longest};
 ghost use Rattle.pen.specs.Pens.{Said};

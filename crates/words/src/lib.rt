@@ -1,5 +1,7 @@
 // Floor 1: what every call answers. The definitions stand in specs/, the laws about them in proofs/; here are the shapes of the answers.
 // In each answer `number` is 0, or the number of the refusal with zeros in every other field.
+#![tactic(auto)]
+
 ghost use Rattle.std.specs.Prelude.{◌≡◌};
 
 // The most readings that a log may have, and the places of a weighed list and of a breakdown that follow from it (`longest`, `weighed_places` and
@@ -15,14 +17,14 @@ pub const CEILING: u8 = 20;
 
 // A call that only writes tables.
 #[repr(C)]
-#[derive(Drop)]
+#[derive(Clone, Copy)]
 pub struct Written {
     pub number: u8,
 }
 
 // The enhanced table and a window: the weighed total.
 #[repr(C)]
-#[derive(Drop)]
+#[derive(Clone, Copy)]
 pub struct Weighing {
     pub number: u8,
     pub total: u32,
@@ -30,7 +32,7 @@ pub struct Weighing {
 
 // The list of covers: how many were written.
 #[repr(C)]
-#[derive(Drop)]
+#[derive(Clone, Copy)]
 pub struct Listed {
     pub number: u8,
     pub used: u16,
@@ -38,7 +40,7 @@ pub struct Listed {
 
 // A normal form.
 #[repr(C)]
-#[derive(Drop)]
+#[derive(Clone, Copy)]
 pub struct Normal {
     pub number: u8,
     pub k1: u16,
@@ -48,7 +50,7 @@ pub struct Normal {
 
 // One part of a breakdown: its length with its normal form.
 #[repr(C)]
-#[derive(Drop)]
+#[derive(Clone, Copy)]
 pub struct Part {
     pub len: u16,
     pub k1: u16,
@@ -57,7 +59,7 @@ pub struct Part {
 }
 
 #[repr(C)]
-#[derive(Drop)]
+#[derive(Clone, Copy)]
 pub struct Breakdown {
     pub number: u8,
     pub used: u16,
@@ -66,7 +68,7 @@ pub struct Breakdown {
 
 // The weighed list of one prefix, longest first.
 #[repr(C)]
-#[derive(Drop)]
+#[derive(Clone, Copy)]
 pub struct Weighed {
     pub number: u8,
     pub used: u16,
@@ -76,14 +78,14 @@ pub struct Weighed {
 
 // The best pattern: how many readings it has.
 #[repr(C)]
-#[derive(Drop)]
+#[derive(Clone, Copy)]
 pub struct Pattern {
     pub number: u8,
     pub len: usize,
 }
 
 // The cover test.
-#[derive(Drop)]
+#[derive(Clone, Copy)]
 pub enum CoverTest {
     Yes,
     No,
