@@ -1,0 +1,38 @@
+-- `cover::retire` meets its contract. The loop's invariant is `Falling`, and that up and kids keep their lengths; its measure is q. Assumes nothing.
+use mathlib.Core.Path.{◌≡◌}
+use Prim.Native.Nat.{◌+◌}
+use borrow.Author.Rules.{rules}
+use lib.ListN.{length}
+use Rattle.cover.proofs.Tree.{Falling, fall_start, fall_done}
+use Rattle.cover.proofs.Steps.{retire_some, retire_row, retire_falls, retire_inside, retire_scaled, retire_counted, retire_next}
+use Rattle.cover.proofs.retire.Goals as goal
+
+pub loop-kids-init : goal.loop-kids-init
+loop-kids-init c = search (rules, fall_start)
+
+pub overflow_sub-c : goal.overflow_sub-c
+overflow_sub-c c = search retire_some
+
+pub bounds-t-q : goal.bounds-t-q
+bounds-t-q c = search retire_row
+
+pub offset_bounds-kids-q-in-loop-kids : goal.offset_bounds-kids-q-in-loop-kids
+offset_bounds-kids-q-in-loop-kids c = search retire_scaled
+
+pub bounds-kids-q-in-loop-kids : goal.bounds-kids-q-in-loop-kids
+bounds-kids-q-in-loop-kids c = search retire_inside
+
+pub overflow_sub-kids : goal.overflow_sub-kids
+overflow_sub-kids c = search (rules, retire_counted)
+
+pub bounds-kids-q-in-loop-kids-2 : goal.bounds-kids-q-in-loop-kids-2
+bounds-kids-q-in-loop-kids-2 c = search retire_inside
+
+pub loop-kids-smaller : goal.loop-kids-smaller
+loop-kids-smaller c = search retire_falls
+
+pub loop-kids-preserved : goal.loop-kids-preserved
+loop-kids-preserved c = search (rules, retire_next)
+
+pub returns : goal.returns
+returns c = search fall_done

@@ -1,0 +1,18 @@
+-- `lines::fields` meets its contract. The loop's invariant is `Listed`, its measure what is left of t. Assumes nothing.
+use Prim.Native.Nat.{◌-◌}
+use borrow.Author.Rules.{rules}
+use lib.ListN.{length}
+use Rattle.lines.proofs.Texts.{Listed, listed_none, listed_room, listed_more, listed_all, listed_short}
+use Rattle.lines.proofs.fields.Goals as goal
+
+pub loop-i-init : goal.loop-i-init
+loop-i-init c = search listed_none
+
+pub field-end-requires : goal.field-end-requires
+field-end-requires c = search (rules, listed_room)
+
+pub loop-i-preserved : goal.loop-i-preserved
+loop-i-preserved c = search (rules, listed_more)
+
+pub returns : goal.returns
+returns c = (search listed_all, search listed_short)

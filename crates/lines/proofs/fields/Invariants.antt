@@ -1,0 +1,12 @@
+-- `lines::fields` meets its contract. The loop's invariant is `Listed`, its measure what is left of t. Assumes nothing.
+use Prim.Native.Nat.{◌-◌}
+use borrow.Author.Rules.{rules}
+use lib.ListN.{length}
+use Rattle.lines.proofs.Texts.{Listed, listed_none, listed_room, listed_more, listed_all, listed_short}
+use Rattle.lines.proofs.fields.Given as goal
+
+abbrev pub invariant-loop-i : goal.invariant-loop-i
+invariant-loop-i l = Listed l.t l.initial.text l.at l.text l.end l.i
+
+abbrev pub decreases-loop-i : goal.decreases-loop-i
+decreases-loop-i l = length l.t - l.i

@@ -1,0 +1,15 @@
+-- `lines::word` meets its contract. The loop's invariant is `Copied`, its measure what is left of w. Assumes nothing.
+use Prim.Native.Nat.{◌-◌}
+use borrow.Author.Rules.{rules}
+use lib.ListN.{length}
+use Rattle.lines.proofs.Texts.{Copied, copied_none, copied_more, copied_all, copied_whole}
+use Rattle.lines.proofs.word.Goals as goal
+
+pub loop-i-init : goal.loop-i-init
+loop-i-init c = search copied_none
+
+pub loop-i-preserved : goal.loop-i-preserved
+loop-i-preserved c = search (rules, copied_more)
+
+pub returns : goal.returns
+returns c = (search (rules, copied_all), search (rules, copied_whole))

@@ -1,0 +1,7 @@
+-- `logfile::field` meets its contract. Assumes nothing.
+use borrow.Author.Rules.{rules}
+use Rattle.logfile.proofs.Steps.{field_is}
+use Rattle.logfile.proofs.field.Goals as goal
+
+pub returns : goal.returns
+returns c = search field_is

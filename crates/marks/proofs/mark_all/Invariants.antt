@@ -1,0 +1,14 @@
+-- `marks::mark_all` meets its contract. The loop's invariant: the marks up to p are written, and `Reaches`. Its measure is the readings left. Assumes nothing.
+use Prim.Native.Nat.{◌-◌}
+use borrow.Author.Rules.{rules}
+use lib.ListN.{length}
+use Rattle.marks.specs.Marks.{mark_of, Reaches}
+use Rattle.marks.proofs.Reaching.{reaches_none}
+use Rattle.words.proofs.Tables.{Rows, rows_none, rows_length, rows_inside, rows_more, rows_done}
+use Rattle.marks.proofs.mark_all.Given as goal
+
+abbrev pub invariant-loop-p : goal.invariant-loop-p
+invariant-loop-p l = Rows (mark_of l.q) l.x l.initial.marks l.marks l.p × Reaches l.x l.q l.p l.reach
+
+abbrev pub decreases-loop-p : goal.decreases-loop-p
+decreases-loop-p l = length l.x - l.p

@@ -1,0 +1,10 @@
+-- `parts::breakdown` meets its contract. Assumes nothing.
+use borrow.Author.Rules.{rules}
+use Rattle.parts.proofs.Steps.{deep_first, broken_whole}
+use Rattle.parts.proofs.breakdown.Goals as goal
+
+pub descend-requires : goal.descend-requires
+descend-requires c = search (rules, deep_first)
+
+pub returns : goal.returns
+returns c = search broken_whole

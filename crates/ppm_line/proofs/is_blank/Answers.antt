@@ -1,0 +1,16 @@
+-- `ppm_line::is_blank` meets its contract. Assumes nothing.
+use borrow.Author.Tests.{eq-eqb, ne_eqb}
+use Rattle.ppm_line.specs.Lines.{blank}
+use Rattle.ppm_line.proofs.is_blank.Goals as goal
+
+pub returns-then-b-eq32 : goal.returns-then-b-eq32
+unfolding blank
+returns-then-b-eq32 c = simp (eq-eqb _ _ c.if1.true)
+
+pub returns-then-b-eq9 : goal.returns-then-b-eq9
+unfolding blank
+returns-then-b-eq9 c = simp (ne_eqb _ _ c.before.if1.false, eq-eqb _ _ c.if2.true)
+
+pub returns : goal.returns
+unfolding blank
+returns c = simp (ne_eqb _ _ c.before.if1.false, ne_eqb _ _ c.if2.false)

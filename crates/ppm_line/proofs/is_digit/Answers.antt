@@ -1,0 +1,12 @@
+-- `ppm_line::is_digit` meets its contract. Assumes nothing.
+use borrow.Author.Tests.{le-leb, lt-leb}
+use Rattle.ppm_line.specs.Lines.{digit}
+use Rattle.ppm_line.proofs.is_digit.Goals as goal
+
+pub returns-then-b-lt48 : goal.returns-then-b-lt48
+unfolding digit
+returns-then-b-lt48 c = simp (lt-leb _ _ c.if1.true)
+
+pub returns : goal.returns
+unfolding digit
+returns c = simp (le-leb _ _ c.if1.false)

@@ -1,0 +1,17 @@
+-- `prefix::scan` meets its contract. The loop's invariant: the first k readings occur after r. The measure is what is left of x. Assumes nothing.
+use Prim.Native.Nat.{◌-◌}
+use borrow.Author.Rules.{rules}
+use lib.Dec.{eqb}
+use lib.ListN.{length}
+use Rattle.words.proofs.Prefixes.{Reaches}
+use Rattle.prefix.proofs.Steps.{scan_more, scan_stop, scan_end}
+use Rattle.prefix.proofs.scan.Goals as goal
+
+pub returns-then-x-k : goal.returns-then-x-k
+returns-then-x-k c = search scan_stop
+
+pub loop-k-preserved : goal.loop-k-preserved
+loop-k-preserved c = search scan_more
+
+pub returns : goal.returns
+returns c = search scan_end

@@ -1,0 +1,7 @@
+-- `tallies::enter` meets its contract. Assumes nothing.
+use borrow.Author.Rules.{rules}
+use Rattle.tallies.proofs.Steps.{enter_round}
+use Rattle.tallies.proofs.enter.Goals as goal
+
+pub returns : goal.returns
+returns c = search (rules, enter_round)

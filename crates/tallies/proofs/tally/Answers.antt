@@ -1,0 +1,13 @@
+-- `tallies::tally` meets its contract. Assumes nothing.
+use borrow.Author.Rules.{rules}
+use Rattle.tallies.proofs.Steps.{tally_early, tally_small, tally_count, tally_fits, tally_round}
+use Rattle.tallies.proofs.tally.Goals as goal
+
+pub grown-k-requires : goal.grown-k-requires
+grown-k-requires c = (search tally_early, search tally_small)
+
+pub overflow_cast-held : goal.overflow_cast-held
+overflow_cast-held c = search tally_fits
+
+pub returns : goal.returns
+returns c = (tally_round c.before.before.before.before.before.before.before.before.requires.0 (search rules) _ _ c.before.before.before.wide.ensures c.before.wide2.ensures _ c.grown.ensures, search tally_count)
