@@ -6,7 +6,7 @@ use Rattle.bases.proofs.Steps.{copy_holds, over_copy}
 use Rattle.bases.proofs.borders_and_covers.Goals as goal
 
 pub rows-requires-2 : goal.rows-requires-2
-rows-requires-2 c = (copy_holds border_row _ _ (search (written_holds border_row)) (search rules) c.before.before.before.before.before.copy.ensures, search rules, search rules)
+rows-requires-2 c = (copy_holds border_row _ _ (search (written_holds border_row)) (search rules) c.copy.ensures, search rules, search rules)
 
-pub returns : goal.returns
-returns c = (search rules, search (over_copy cover_row))
+pub returns-clause-cover : goal.returns-clause-cover
+returns-clause-cover c = search (over_copy cover_row)

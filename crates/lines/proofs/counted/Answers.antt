@@ -5,3 +5,6 @@ use Rattle.lines.proofs.counted.Goals as goal
 
 pub field-told-requires : goal.field-told-requires
 field-told-requires c = decimal_fits _ _ _ (search rules)
+
+pub returns-clause-put : goal.returns-clause-put
+returns-clause-put c = search counted_put

@@ -14,5 +14,8 @@ field-end-requires c = search (rules, listed_room)
 pub loop-i-preserved : goal.loop-i-preserved
 loop-i-preserved c = search (rules, listed_more)
 
-pub returns : goal.returns
-returns c = (search listed_all, search listed_short)
+pub returns-clause-put : goal.returns-clause-put
+returns-clause-put c = search listed_all
+
+pub returns-clause-short : goal.returns-clause-short
+returns-clause-short c = search listed_short

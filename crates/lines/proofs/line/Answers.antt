@@ -3,5 +3,5 @@ use borrow.Author.Rules.{rules}
 use Rattle.lines.proofs.Texts.{line_put}
 use Rattle.lines.proofs.line.Goals as goal
 
-pub returns : goal.returns
-returns c = (search line_put, search rules)
+pub returns-clause-put : goal.returns-clause-put
+returns-clause-put c = search line_put

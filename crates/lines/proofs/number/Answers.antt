@@ -6,5 +6,8 @@ use Rattle.lines.proofs.number.Goals as goal
 pub word-requires : goal.word-requires
 word-requires c = search (rules, number_room)
 
-pub returns : goal.returns
-returns c = (search (rules, number_put), search (rules, number_short))
+pub returns-clause-put : goal.returns-clause-put
+returns-clause-put c = search (rules, number_put)
+
+pub returns-clause-short : goal.returns-clause-short
+returns-clause-short c = search (rules, number_short)

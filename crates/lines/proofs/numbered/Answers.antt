@@ -6,5 +6,5 @@ use Rattle.lines.proofs.numbered.Goals as goal
 pub number-head-requires : goal.number-head-requires
 number-head-requires c = decimal_fits _ _ _ (search rules)
 
-pub returns : goal.returns
-returns c = (search line_put, search rules)
+pub returns-clause-put : goal.returns-clause-put
+returns-clause-put c = search line_put

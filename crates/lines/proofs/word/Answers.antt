@@ -11,5 +11,8 @@ loop-i-init c = search copied_none
 pub loop-i-preserved : goal.loop-i-preserved
 loop-i-preserved c = search (rules, copied_more)
 
-pub returns : goal.returns
-returns c = (search (rules, copied_all), search (rules, copied_whole))
+pub returns-clause-put : goal.returns-clause-put
+returns-clause-put c = search (rules, copied_all)
+
+pub returns-clause-whole : goal.returns-clause-whole
+returns-clause-whole c = search (rules, copied_whole)

@@ -5,7 +5,7 @@ use Rattle.marks.proofs.Reaching.{start_fits, start_marked, start_reaches, still
 use Rattle.marks.proofs.judge.Goals as goal
 
 pub overflow_add-result : goal.overflow_add-result
-overflow_add-result c = omega (arith, start_fits _ _ _ _ c.before.before.before.requires.1 _ c.before.starts.ensures c.if1.true)
+overflow_add-result c = omega (arith, start_fits _ _ _ _ c.requires.1 _ c.starts.ensures c.if-starts.true)
 
 pub returns-then-starts : goal.returns-then-starts
 returns-then-starts c = search (rules, start_marked, start_reaches)

@@ -20,4 +20,4 @@ pub shape_of-marks : goal.shape_of-marks
 shape_of-marks c = search (rules, rows_length)
 
 pub returns : goal.returns
-returns c = rows_done c.before.loop.invariant.0 (search rules)
+returns c = rows_done c.loop-p.invariant.0 (search rules)

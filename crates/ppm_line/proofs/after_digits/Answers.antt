@@ -5,7 +5,7 @@ use Rattle.ppm_line.proofs.Steps.{digit_after, digits_end}
 use Rattle.ppm_line.proofs.after_digits.Goals as goal
 
 pub with_digit-requires : goal.with_digit-requires
-with_digit-requires c = sym c.before.is_digit.ensures ∙ c.if1.true
+with_digit-requires c = sym c.is_digit.ensures ∙ c.if-is_digit.true
 
 pub returns-then-is_digit : goal.returns-then-is_digit
 returns-then-is_digit c = search (rules, digit_after)

@@ -11,10 +11,10 @@ pub returns-then-b-eq35 : goal.returns-then-b-eq35
 returns-then-b-eq35 c = search (rules, first_mark)
 
 pub with_digit-requires : goal.with_digit-requires
-with_digit-requires c = sym c.before.before.is_digit.ensures ∙ c.before.if3.true
+with_digit-requires c = sym c.is_digit.ensures ∙ c.if-is_digit.true
 
 pub returns-then-is_digit : goal.returns-then-is_digit
-returns-then-is_digit c = first_digit _ _ c.before.before.before.before.before.before.is-blank.ensures _ _ c.before.before.before.before.before.if1.false c.before.before.before.before.if2.false c.before.before.before.is_digit.ensures c.before.before.if3.true (cc)
+returns-then-is_digit c = first_digit _ _ c.is_blank.ensures _ _ c.if-is_blank.false c.if-b-eq35.false c.is_digit.ensures c.if-is_digit.true (cc)
 
 pub returns : goal.returns
 returns c = search (rules, first_other)

@@ -5,12 +5,12 @@ use Rattle.ppm_line.proofs.is_blank.Goals as goal
 
 pub returns-then-b-eq32 : goal.returns-then-b-eq32
 unfolding blank
-returns-then-b-eq32 c = simp (eq-eqb _ _ c.if1.true)
+returns-then-b-eq32 c = simp (eq-eqb _ _ c.if-b-eq32.true)
 
 pub returns-then-b-eq9 : goal.returns-then-b-eq9
 unfolding blank
-returns-then-b-eq9 c = simp (ne_eqb _ _ c.before.if1.false, eq-eqb _ _ c.if2.true)
+returns-then-b-eq9 c = simp (ne_eqb _ _ c.if-b-eq32.false, eq-eqb _ _ c.if-b-eq9.true)
 
 pub returns : goal.returns
 unfolding blank
-returns c = simp (ne_eqb _ _ c.before.if1.false, ne_eqb _ _ c.if2.false)
+returns c = simp (ne_eqb _ _ c.if-b-eq32.false, ne_eqb _ _ c.if-b-eq9.false)

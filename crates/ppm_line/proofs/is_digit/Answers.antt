@@ -5,8 +5,8 @@ use Rattle.ppm_line.proofs.is_digit.Goals as goal
 
 pub returns-then-b-lt48 : goal.returns-then-b-lt48
 unfolding digit
-returns-then-b-lt48 c = simp (lt-leb _ _ c.if1.true)
+returns-then-b-lt48 c = simp (lt-leb _ _ c.if-b-lt48.true)
 
 pub returns : goal.returns
 unfolding digit
-returns c = simp (le-leb _ _ c.if1.false)
+returns c = simp (le-leb _ _ c.if-b-lt48.false)

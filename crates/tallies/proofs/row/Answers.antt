@@ -5,8 +5,8 @@ use Rattle.tallies.proofs.Tallies.{tallies_flags}
 use Rattle.tallies.proofs.Steps.{alone_laid, chain_fits, chain_laid, chain_set, own_round}
 use Rattle.tallies.proofs.row.Goals as goal
 
-pub returns-then-b-eq0 : goal.returns-then-b-eq0
-returns-then-b-eq0 c = (search alone_laid, (search rules, search rules))
+pub returns-then-b-eq0-clause-chain : goal.returns-then-b-eq0-clause-chain
+returns-then-b-eq0-clause-chain c = search alone_laid
 
 pub heaviest-w-requires : goal.heaviest-w-requires
 heaviest-w-requires c = (search tallies_flags, search rules, search rules, search rules)
@@ -17,5 +17,5 @@ overflow_cast-chain c = search (chain_fits, border_fits)
 pub weigh-requires : goal.weigh-requires
 weigh-requires c = (search own_round, search chain_laid, search rules, search rules, search rules)
 
-pub returns : goal.returns
-returns c = (search chain_set, (search rules, search rules))
+pub returns-clause-chain : goal.returns-clause-chain
+returns-clause-chain c = search chain_set

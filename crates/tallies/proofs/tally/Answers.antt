@@ -10,4 +10,4 @@ pub overflow_cast-held : goal.overflow_cast-held
 overflow_cast-held c = search tally_fits
 
 pub returns : goal.returns
-returns c = (tally_round c.before.before.before.before.before.before.before.before.requires.0 (search rules) _ _ c.before.before.before.wide.ensures c.before.wide2.ensures _ c.grown.ensures, search tally_count)
+returns c = (tally_round c.requires.0 (search rules) _ _ c.wide-e.ensures c.wide-c.ensures _ c.grown-k.ensures, search tally_count)
