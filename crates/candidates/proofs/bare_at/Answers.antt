@@ -1,0 +1,25 @@
+-- `candidates::bare_at` meets its contract. Assumes nothing.
+use borrow.Author.Rules.{rules}
+use Rattle.candidates.proofs.Steps.{bare_first, in_cover, in_bare, bare_yes, bare_no}
+use Rattle.candidates.proofs.bare_at.Goals as goal
+
+pub returns-then-r-eq0 : goal.returns-then-r-eq0
+returns-then-r-eq0 c = search bare_first
+
+pub offset_bounds-cover-r : goal.offset_bounds-cover-r
+offset_bounds-cover-r c = search (rules, in_cover)
+
+pub bounds-cover-r : goal.bounds-cover-r
+bounds-cover-r c = search in_cover
+
+pub returns-then-cover-r-eq0 : goal.returns-then-cover-r-eq0
+returns-then-cover-r-eq0 c = search bare_yes
+
+pub offset_bounds-bare-r : goal.offset_bounds-bare-r
+offset_bounds-bare-r c = search (rules, in_bare)
+
+pub bounds-bare-r : goal.bounds-bare-r
+bounds-bare-r c = search in_bare
+
+pub returns : goal.returns
+returns c = search bare_no

@@ -1,0 +1,10 @@
+-- `candidates::best` meets its contract. The loop's invariant is `Walk`, its measure q. Assumes nothing.
+use borrow.Author.Rules.{rules}
+use Rattle.candidates.proofs.Steps.{Walk, far_in, walk_first, walk_some, walk_ready, walk_bare, in_next, walk_falls, walk_next, walk_done}
+use Rattle.candidates.proofs.best.Given as goal
+
+abbrev pub invariant-loop-q : goal.invariant-loop-q
+invariant-loop-q l = Walk l.x l.i l.q l.m l.s
+
+abbrev pub decreases-loop-q : goal.decreases-loop-q
+decreases-loop-q l = l.q

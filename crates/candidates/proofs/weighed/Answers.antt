@@ -1,0 +1,28 @@
+-- `candidates::weighed` meets its contract. Assumes nothing.
+use borrow.Author.Rules.{rules}
+use Rattle.candidates.proofs.Steps.{in_last, in_held, weighed_fits, weighed_small, weighed_none, weighed_early, weighed_taken}
+use Rattle.candidates.proofs.weighed.Goals as goal
+
+pub offset_bounds-held-q : goal.offset_bounds-held-q
+offset_bounds-held-q c = search (rules, in_held)
+
+pub bounds-held-q : goal.bounds-held-q
+bounds-held-q c = search in_held
+
+pub overflow_add-c : goal.overflow_add-c
+overflow_add-c c = search weighed_fits
+
+pub returns-then-c-m : goal.returns-then-c-m
+returns-then-c-m c = search weighed_none
+
+pub offset_bounds-last-q : goal.offset_bounds-last-q
+offset_bounds-last-q c = search (rules, in_last)
+
+pub bounds-last-q : goal.bounds-last-q
+bounds-last-q c = search in_last
+
+pub grown-k-requires : goal.grown-k-requires
+grown-k-requires c = (search weighed_early, search weighed_small)
+
+pub returns : goal.returns
+returns c = search weighed_taken

@@ -1,0 +1,7 @@
+-- `wording::band` meets its contract. Assumes nothing.
+use borrow.Author.Rules.{rules}
+use Rattle.wording.proofs.Steps.{band_told}
+use Rattle.wording.proofs.band.Goals as goal
+
+pub returns : goal.returns
+returns c = search band_told

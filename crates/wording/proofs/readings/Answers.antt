@@ -1,0 +1,11 @@
+-- `wording::readings` meets its contract. Assumes nothing.
+use borrow.Author.Rules.{rules}
+use Rattle.pen.proofs.Meaning.{said_piece}
+use Rattle.wording.proofs.Steps.{pick_first, pick_second}
+use Rattle.wording.proofs.readings.Goals as goal
+
+pub returns-then-n-eq1 : goal.returns-then-n-eq1
+returns-then-n-eq1 c = search (pick_first, said_piece)
+
+pub returns : goal.returns
+returns c = search (pick_second, said_piece)
