@@ -1,0 +1,7 @@
+-- `judged::best` meets its contract. Assumes nothing.
+use borrow.Author.Rules.{rules}
+use Rattle.judged.proofs.Steps.{last_best}
+use Rattle.judged.proofs.best.Goals as goal
+
+pub returns : goal.returns
+returns c = search last_best

@@ -1,0 +1,8 @@
+-- `judged::covers` meets its contract. Assumes nothing.
+use borrow.Author.Rules.{rules}
+use Rattle.words.specs.Tables.{cover_row}
+use Rattle.bases.proofs.Work.{work_holds}
+use Rattle.judged.proofs.covers.Goals as goal
+
+pub list-requires : goal.list-requires
+list-requires c = (search rules, search (work_holds cover_row), search rules)

@@ -1,0 +1,11 @@
+-- `judged::weighed` meets its contract. Assumes nothing.
+use borrow.Author.Rules.{rules}
+use Rattle.words.specs.Tables.{border_row, cover_row}
+use Rattle.bases.proofs.Work.{work_blank, work_holds}
+use Rattle.judged.proofs.weighed.Goals as goal
+
+pub borders_and_covers-requires : goal.borders_and_covers-requires
+borders_and_covers-requires c = (search rules, search rules, search work_blank)
+
+pub list-requires : goal.list-requires
+list-requires c = (search (work_holds border_row), search (work_holds cover_row), search rules, search rules)

@@ -1,0 +1,7 @@
+-- `summary::read_bases` meets its contract. Assumes nothing.
+use borrow.Author.Rules.{rules}
+use Rattle.summary.proofs.Reading.{outline_is}
+use Rattle.summary.proofs.read_bases.Goals as goal
+
+pub returns-clause-whole : goal.returns-clause-whole
+returns-clause-whole c = search outline_is
