@@ -1,0 +1,7 @@
+-- `facts::borders` meets its contract. Assumes nothing.
+use borrow.Author.Rules.{rules}
+use Rattle.facts.proofs.Lines.{borders_put}
+use Rattle.facts.proofs.borders.Goals as goal
+
+pub returns-clause-put : goal.returns-clause-put
+returns-clause-put c = search borders_put
