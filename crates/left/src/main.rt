@@ -1,5 +1,5 @@
 #![tactic(auto)]
 
-fn main() {
-    left_text::left(0);
+fn main(rt: HostRuntime) {
+    left_text::left(&rt, &mut rt.stdin());
 }

@@ -7,6 +7,8 @@ ghost use Rattle.lines.specs.Text.{decimal, line, Put, Says};
 ghost use Rattle.reporting.specs.Texts.{file_text, row_room, rows_room};
 ghost use Rattle.left_text.specs.Lefts as Lefts;
 
+use std::io::Read;
+
 // Puts the row r, from 0.
 fn row(
     r: usize,
@@ -72,10 +74,10 @@ pub fn file_text(f: &[u8], text: &mut [u8]) -> usize
 }
 
 // Reads a file and writes its left covers and left seeds. Whether they were written whole.
-pub fn left(fd: i32) -> bool {
+pub fn left(rt: &(impl Print + Eprint), from: &mut impl Read) -> bool {
     let mut file = [0u8; logfile::FILE_ROOM];
     let mut text = [0u8; reporting::table::TEXT];
-    let n = io::read_full(fd, &mut file);
+    let n = input::read_full(from, &mut file);
     let end = file_text(&file[..n], &mut text);
-    output::write(&text[0..end])
+    output::write(rt, &text[0..end])
 }

@@ -1,6 +1,6 @@
 // The plant's file on standard input, to its picture, in SVG, on standard output.
 #![tactic(auto)]
 
-fn main() {
-    picturing::run(0);
+fn main(rt: HostRuntime) {
+    picturing::run(&rt, &mut rt.stdin());
 }

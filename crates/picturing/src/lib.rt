@@ -5,6 +5,7 @@ ghost use Rattle.std.specs.Prelude.{length};
 ghost use Rattle.words.proofs.Refusals.{Judged};
 
 use pen::Pen;
+use std::io::Read;
 
 // The first n entries of a list.
 fn front(t: &[u16], n: usize) -> &[u16] {
@@ -56,13 +57,13 @@ pub fn picture_of(file: &[u8], out: &mut [u8]) -> Pen {
 }
 
 // Reads a file and writes its picture. Whether it was written whole.
-pub fn run(fd: i32) -> bool {
+pub fn run(rt: &(impl Print + Eprint), from: &mut impl Read) -> bool {
     let mut file = [0u8; logfile::FILE_ROOM];
     let mut out = [0u8; drawing::ROOM];
-    let n = io::read_full(fd, &mut file);
+    let n = input::read_full(from, &mut file);
     let p = picture_of(&file[..n], &mut out);
     if p.fits {
-        return output::write(pen::text(&out, p));
+        return output::write(rt, pen::text(&out, p));
     }
-    output::fail()
+    output::fail(rt)
 }

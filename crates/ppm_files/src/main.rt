@@ -4,19 +4,19 @@
 
 ghost use Rattle.std.specs.Prelude.{◌≤◌};
 
-fn print_byte(b: u8) -> bool {
-    output::write(b" ") && output::decimal(b as u64)
+fn print_byte(rt: &HostRuntime, b: u8) -> bool {
+    output::write(rt, b" ") && output::decimal(rt, b as u64)
 }
 
-fn print_bytes(s: &[u8]) -> bool {
+fn print_bytes(rt: &HostRuntime, s: &[u8]) -> bool {
     let mut i = 0;
     while i < s.len() {
-        if !print_byte(s[i]) {
+        if !print_byte(rt, s[i]) {
             return false;
         }
         i += 1;
     }
-    output::write(b"\n")
+    output::write(rt, b"\n")
 }
 
 fn most(n: usize) -> usize
@@ -25,45 +25,40 @@ fn most(n: usize) -> usize
     if n < 16 { n } else { 16 }
 }
 
-fn print_file(file: &[u8]) -> bool {
+fn print_file(rt: &HostRuntime, file: &[u8]) -> bool {
     let n = most(file.len());
-    output::decimal(file.len() as u64) && output::write(b" bytes:") && print_bytes(&file[0..n])
+    output::decimal(rt, file.len() as u64)
+        && output::write(rt, b" bytes:")
+        && print_bytes(rt, &file[0..n])
 }
 
-fn make(from: i32) -> bool {
+fn make(rt: &HostRuntime, from: &mut File) -> bool {
     let mut file = [0u8; logfile::LONGEST_FILE];
-    let made = ppm_lines::make_file(from, 1, &mut file);
+    let made = ppm_lines::make_file(from, &rt.stdout(), &mut file);
     let n = made.len;
     if n == 0 {
-        return made.said || output::fail();
+        return made.said || output::fail(rt);
     }
-    print_file(&file[..n])
+    print_file(rt, &file[..n])
 }
 
-fn one(path: &[u8]) -> bool {
-    let from = os::open_read(path);
-    if from < 0 {
-        return output::write(b"missing\n");
+fn one(rt: &HostRuntime, path: &[u8]) -> bool {
+    match input::open(rt, path) {
+        Some(mut file) => make(rt, &mut file),
+        None => output::write(rt, b"missing\n"),
     }
-    let all = make(from);
-    libc::close(from);
-    all
 }
 
-fn named(k: usize) -> bool {
-    let mut path = io::buffer();
-    let n = os::arg(k, &mut path);
-    output::write(&path[..n]) && output::write(b": ") && one(&path[..n])
+fn named(rt: &HostRuntime, path: &[u8]) -> bool {
+    output::write(rt, path) && output::write(rt, b": ") && one(rt, path)
 }
 
-fn main() {
-    let count = os::arg_count();
-    let mut k = 1;
-    while k < count {
-        if named(k) {
-            k += 1;
-        } else {
-            return;
+fn main(rt: HostRuntime) {
+    let mut path = [0u8; input::ARGUMENT];
+    for k in 1..usize::MAX {
+        match input::argument(&rt, k, &mut path) {
+            Some(n) if named(&rt, &path[..n]) => (),
+            _ => return,
         }
     }
 }

@@ -5,6 +5,10 @@ ghost use Rattle.ppm_text.specs.Texts.{Made};
 ghost use Rattle.ppm_text.specs.States.{Room, After, Holds};
 
 use ppm_text::{Fault, State};
+use std::io::Read;
+
+// How much is asked for at once.
+const PIECE: usize = 4096;
 
 // How the input stands after a read.
 #[derive(Clone, Copy)]
@@ -30,33 +34,29 @@ fn is_end(i: Input) -> bool {
 }
 
 // Reads once.
-fn read_piece(from: i32, s: State, file: &mut [u8]) -> Reading
+fn read_piece(from: &mut impl Read, s: State, file: &mut [u8]) -> Reading
     requires { After s file.old }
     ensures { After result.state file.new }
 {
-    let mut buf = io::buffer();
-    let got = libc::read(from, &mut buf);
-    if got < 0 {
-        return Reading {
+    let mut buf = [0u8; PIECE];
+    match from.read(&mut buf) {
+        Err(_) => Reading {
             state: s,
             input: Input::Failed,
-        };
-    }
-    if got == 0 {
-        return Reading {
+        },
+        Ok(0) => Reading {
             state: s,
             input: Input::End,
-        };
-    }
-    let n = io::count(got, &buf);
-    Reading {
-        state: ppm_text::feed(s, &buf[..n], file),
-        input: Input::More,
+        },
+        Ok(n) => Reading {
+            state: ppm_text::feed(s, &buf[..n], file),
+            input: Input::More,
+        },
     }
 }
 
 // Reads to the end. A proved loop has to end, and nothing says that an input does: so the loop counts its turns down, from a number that no run uses up.
-fn read_text(from: i32, file: &mut [u8]) -> Reading
+fn read_text(from: &mut impl Read, file: &mut [u8]) -> Reading
     requires { Room 0 file.old }
     ensures { After result.state file.new }
 {
@@ -78,22 +78,22 @@ fn read_text(from: i32, file: &mut [u8]) -> Reading
 }
 
 // Says what is wrong with a line, and answers whether all of it was written.
-fn say_line(to: i32, number: u64, what: &[u8]) -> bool {
-    io::write_all(to, b"line ")
-        && io::print_decimal(to, number)
-        && io::write_all(to, b": ")
-        && io::write_all(to, what)
-        && io::write_all(to, b"\n")
+fn say_line(to: &impl Print, number: u64, what: &[u8]) -> bool {
+    to.write_all(b"line ").is_ok()
+        && to.print(number).is_ok()
+        && to.write_all(b": ").is_ok()
+        && to.write_all(what).is_ok()
+        && to.write_all(b"\n").is_ok()
 }
 
 // Says what is wrong with a text, and answers whether all of it was written.
-fn say_fault(to: i32, f: Fault, number: u64) -> bool {
+fn say_fault(to: &impl Print, f: Fault, number: u64) -> bool {
     match f {
         Fault::Nothing => true,
         Fault::NoNumber => say_line(to, number, b"not a number"),
         Fault::LongNumber => say_line(to, number, b"more than 6 digits"),
         Fault::Many => say_line(to, number, b"more than 4096 readings"),
-        Fault::Empty => io::write_all(to, b"no reading\n"),
+        Fault::Empty => to.write_all(b"no reading\n").is_ok(),
     }
 }
 
@@ -105,7 +105,7 @@ pub struct Making {
 }
 
 // Ends the text and its file. What is wrong is said.
-fn finish(t: Reading, say: i32, file: &mut [u8]) -> Making
+fn finish(t: Reading, say: &impl Print, file: &mut [u8]) -> Making
     requires { After t.state file.old }
     ensures { Holds result.len file.new }
 {
@@ -113,7 +113,7 @@ fn finish(t: Reading, say: i32, file: &mut [u8]) -> Making
     if !is_end(input) {
         return Making {
             len: 0,
-            said: io::write_all(say, b"the input cannot be read\n"),
+            said: say.write_all(b"the input cannot be read\n").is_ok(),
         };
     }
     let s = t.state;
@@ -132,7 +132,11 @@ fn finish(t: Reading, say: i32, file: &mut [u8]) -> Making
 }
 
 // Reads a text to its end and makes its file. What is wrong is said.
-pub fn make_file(from: i32, say: i32, file: &mut [u8; logfile::LONGEST_FILE]) -> Making
+pub fn make_file(
+    from: &mut impl Read,
+    say: &impl Print,
+    file: &mut [u8; logfile::LONGEST_FILE],
+) -> Making
     ensures { Holds result.len file.new }
 {
     let t = read_text(from, file);
@@ -140,19 +144,19 @@ pub fn make_file(from: i32, say: i32, file: &mut [u8; logfile::LONGEST_FILE]) ->
 }
 
 // Writes a file: of some text, and one that the plant's reader accepts.
-fn put(file: &[u8])
+fn put(rt: &(impl Print + Eprint), file: &[u8])
     requires { Made file.now }
 {
-    output::write(file);
+    output::write(rt, file);
 }
 
 // From a text of readings to the plant's file. What is wrong is said on standard error.
-pub fn run(from: i32) {
+pub fn run(rt: &HostRuntime, from: &mut impl Read) {
     let mut file = [0u8; logfile::LONGEST_FILE];
-    let made = make_file(from, libc::STDERR_FILENO, &mut file);
+    let made = make_file(from, &rt.stderr(), &mut file);
     let n = made.len;
     if n == 0 {
         return;
     }
-    put(&file[..n]);
+    put(rt, &file[..n]);
 }

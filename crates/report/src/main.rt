@@ -1,5 +1,5 @@
 #![tactic(auto)]
 
-fn main() {
-    reporting::report(0);
+fn main(rt: HostRuntime) {
+    reporting::report(&rt, &mut rt.stdin());
 }

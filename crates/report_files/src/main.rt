@@ -1,31 +1,24 @@
 // Writes the report on each file that an argument names, after the file's name.
 #![tactic(auto)]
 
-// Whether all of it was written.
-fn report_on(k: usize) -> bool {
-    let mut path = io::buffer();
-    let n = os::arg(k, &mut path);
-    output::write(&path[..n]) && output::write(b"\n") && report_of(&path[..n])
-}
-
-fn report_of(path: &[u8]) -> bool {
-    let fd = os::open_read(path);
-    if fd < 0 {
-        return output::write(b"missing\n");
+fn report_of(rt: &HostRuntime, path: &[u8]) -> bool {
+    match input::open(rt, path) {
+        Some(mut file) => reporting::report(rt, &mut file),
+        None => output::write(rt, b"missing\n"),
     }
-    let whole = reporting::report(fd);
-    libc::close(fd);
-    whole
 }
 
-fn main() {
-    let most = os::arg_count();
-    let mut k = 1;
-    while k < most {
-        if report_on(k) {
-            k += 1;
-        } else {
-            return;
+// Whether all of it was written.
+fn report_on(rt: &HostRuntime, path: &[u8]) -> bool {
+    output::write(rt, path) && output::write(rt, b"\n") && report_of(rt, path)
+}
+
+fn main(rt: HostRuntime) {
+    let mut path = [0u8; input::ARGUMENT];
+    for k in 1..usize::MAX {
+        match input::argument(&rt, k, &mut path) {
+            Some(n) if report_on(&rt, &path[..n]) => (),
+            _ => return,
         }
     }
 }

@@ -8,6 +8,8 @@ ghost use Rattle.lines.specs.Text.{Says};
 ghost use Rattle.facts.specs.Report.{report_room, report_text};
 ghost use Rattle.reporting.specs.Texts.{file_text, rows_room, rows_text};
 
+use std::io::Read;
+
 // The text of the report on a file.
 pub fn report_text(f: &[u8], text: &mut [u8]) -> usize
     requires { report_room ≤ length text.old }
@@ -33,19 +35,19 @@ pub fn rows_text(f: &[u8], text: &mut [u8]) -> usize
 }
 
 // Reads a file and writes the report on it. Whether it was written whole.
-pub fn report(fd: i32) -> bool {
+pub fn report(rt: &(impl Print + Eprint), from: &mut impl Read) -> bool {
     let mut file = [0u8; logfile::FILE_ROOM];
     let mut text = [0u8; facts::TEXT];
-    let n = io::read_full(fd, &mut file);
+    let n = input::read_full(from, &mut file);
     let end = report_text(&file[..n], &mut text);
-    output::write(&text[0..end])
+    output::write(rt, &text[0..end])
 }
 
 // Reads a file and writes every row of its tables. Whether they were written whole.
-pub fn rows(fd: i32) -> bool {
+pub fn rows(rt: &(impl Print + Eprint), from: &mut impl Read) -> bool {
     let mut file = [0u8; logfile::FILE_ROOM];
     let mut text = [0u8; table::TEXT];
-    let n = io::read_full(fd, &mut file);
+    let n = input::read_full(from, &mut file);
     let end = rows_text(&file[..n], &mut text);
-    output::write(&text[0..end])
+    output::write(rt, &text[0..end])
 }

@@ -1,5 +1,5 @@
 #![tactic(auto)]
 
-fn main() {
-    reporting::rows(0);
+fn main(rt: HostRuntime) {
+    reporting::rows(&rt, &mut rt.stdin());
 }

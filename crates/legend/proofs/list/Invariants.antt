@@ -6,7 +6,7 @@ use lib.ListN.{length}
 use Rattle.legend.proofs.list.Given as goal
 
 abbrev pub invariant-loop-i : goal.invariant-loop-i
-invariant-loop-i l = length l.p ≡ length l.initial.out
+invariant-loop-i l = length l.out ≡ length l.initial.out
 
 abbrev pub decreases-loop-i : goal.decreases-loop-i
-decreases-loop-i l = length l.t - i
+decreases-loop-i l = length l.t - l.i

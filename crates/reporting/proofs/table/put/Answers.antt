@@ -2,25 +2,10 @@
 use borrow.Author.Rules.{rules}
 use Rattle.words.specs.Tables.{border_row, prefix_row, cover_row, best_row, count_row}
 use Rattle.bases.proofs.Work.{work_holds}
-use Rattle.reporting.proofs.table.put.Statement.{statement}
-use Rattle.reporting.proofs.table.put.Tie as tie
+use Rattle.reporting.proofs.table.put.Goals as goal
 
-pub put_spec : {M : Type 1} → statement M
-put_spec =
-    tie.close
-    (tie.spec
-    (λ c. search rules)
-    (λ c. search rules)
-    (λ c. search rules)
-    (λ c. search rules)
-    (λ c. search rules)
-    (λ c κs. search rules)
-    (λ c. search rules)
-    (λ c. search rules)
-    (λ c. search rules)
-    (λ c. search rules)
-    (λ c. search rules)
-    (λ c κs. (
+pub rows-requires : goal.rows-requires
+rows-requires c = (
       record {
         most = search rules;
         borders = search (work_holds border_row);
@@ -31,6 +16,4 @@ put_spec =
         room = search rules;
       },
       search rules,
-    ))
-    (λ c. search rules)
-    (λ c. search rules))
+    )

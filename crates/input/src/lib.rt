@@ -1,0 +1,38 @@
+// Floor 4: what a program is given: bytes to read, and arguments that name files.
+#![tactic(auto)]
+
+ghost use Rattle.std.specs.Prelude.{◌≤◌, length, IfSome};
+
+use std::env::Env;
+use std::fs::{File, Files};
+use std::io::Read;
+
+// The room for an argument: any path fits.
+pub const ARGUMENT: usize = 4096;
+
+// Reads until the buffer is full, the input ends or a read fails, and answers how many bytes it put at the buffer's start.
+pub fn read_full(from: &mut impl Read, buffer: &mut [u8]) -> usize
+    ensures { result ≤ length buffer.new }
+{
+    let mut done = 0;
+    while done < buffer.len() {
+        match from.read(&mut buffer[done..]) {
+            Ok(n) if 0 < n => done += n,
+            _ => break,
+        }
+    }
+    done
+}
+
+// The file that an argument names, where it can be opened.
+pub fn open<R: Files>(rt: &R, path: &[u8]) -> Option<R::File> {
+    let name = str::from_utf8(path).ok()?;
+    File::open(rt, name).ok()
+}
+
+// Argument k, put at the buffer's start: how many bytes it has; nothing where there is none.
+pub fn argument(rt: &impl Env, k: usize, buffer: &mut [u8]) -> Option<usize>
+    ensures { IfSome result (λ n. n ≤ length buffer.new) }
+{
+    rt.arg(k, buffer).ok()
+}
