@@ -11,12 +11,12 @@ const LINE: usize = 256;
 
 // ---- lines
 
-fn say(word: &[u8], t: &[u16]) -> bool
+fn say(rt: &HostRuntime, word: &[u8], t: &[u16]) -> bool
     requires { (length word.now ≤ 32) × (length t.now ≤ 32) }
 {
     let mut line = [0u8; LINE];
     let end = lines::line(&mut line, 0, word, t);
-    output::write(&line[0..end])
+    output::write(rt, &line[0..end])
 }
 
 // The first n entries of t, where it has them and a line holds them.
@@ -31,20 +31,21 @@ fn first(t: &[u16], n: usize) -> &[u16]
     &t[0..0]
 }
 
-fn say_first(word: &[u8], t: &[u16], n: usize) -> bool
+fn say_first(rt: &HostRuntime, word: &[u8], t: &[u16], n: usize) -> bool
     requires { length word.now ≤ 32 }
 {
-    say(word, first(t, n))
+    say(rt, word, first(t, n))
 }
 
-fn say_total(n: u32) -> bool {
+fn say_total(rt: &HostRuntime, n: u32) -> bool {
     let mut line = [0u8; LINE];
     let end = lines::counted(&mut line, 0, b"total", n as usize);
-    output::write(&line[0..end])
+    output::write(rt, &line[0..end])
 }
 
 // The first n rows of the five columns.
 fn say_columns(
+    rt: &HostRuntime,
     n: usize,
     border: &[u16],
     prefix: &[u16],
@@ -52,16 +53,16 @@ fn say_columns(
     best: &[u16],
     count: &[u16],
 ) -> bool {
-    say_first(b"border", border, n)
-        && say_first(b"prefix", prefix, n)
-        && say_first(b"cover", cover, n)
-        && say_first(b"best", best, n)
-        && say_first(b"count", count, n)
+    say_first(rt, b"border", border, n)
+        && say_first(rt, b"prefix", prefix, n)
+        && say_first(rt, b"cover", cover, n)
+        && say_first(rt, b"best", best, n)
+        && say_first(rt, b"count", count, n)
 }
 
 // ---- tables
 
-pub fn tables(x: &[u8]) -> bool {
+pub fn tables(rt: &HostRuntime, x: &[u8]) -> bool {
     let mut border = [0u16; ROWS];
     let mut prefix = [0u16; ROWS];
     let mut cover = [0u16; ROWS];
@@ -71,11 +72,11 @@ pub fn tables(x: &[u8]) -> bool {
     finder::prefix_table(x, &mut prefix);
     finder::cover_table(x, &mut cover);
     let w = finder::enhanced_table(x, &mut best, &mut count);
-    say_columns(x.len(), &border, &prefix, &cover, &best, &count) && say_total(w.total)
+    say_columns(rt, x.len(), &border, &prefix, &cover, &best, &count) && say_total(rt, w.total)
 }
 
 // The left covers and left seeds.
-pub fn lefts(x: &[u8]) -> bool {
+pub fn lefts(rt: &HostRuntime, x: &[u8]) -> bool {
     let mut cover = [0u16; ROWS];
     let mut count = [0u16; ROWS];
     let mut seed = [0u16; ROWS];
@@ -83,14 +84,14 @@ pub fn lefts(x: &[u8]) -> bool {
     finder::left_covers(x, &mut cover, &mut count);
     finder::left_seeds(x, &mut seed, &mut reach);
     let n = x.len();
-    say_first(b"left cover", &cover, n)
-        && say_first(b"left count", &count, n)
-        && say_first(b"left seed", &seed, n)
-        && say_first(b"seed count", &reach, n)
+    say_first(rt, b"left cover", &cover, n)
+        && say_first(rt, b"left count", &count, n)
+        && say_first(rt, b"left seed", &seed, n)
+        && say_first(rt, b"seed count", &reach, n)
 }
 
 // A window of x, with all rows of tables that held 77 everywhere before.
-pub fn window(x: &[u8], a: u16, m: u16) -> bool {
+pub fn window(rt: &HostRuntime, x: &[u8], a: u16, m: u16) -> bool {
     let mut border = [77u16; 12];
     let mut prefix = [77u16; 12];
     let mut cover = [77u16; 12];
@@ -106,20 +107,20 @@ pub fn window(x: &[u8], a: u16, m: u16) -> bool {
         &mut best,
         &mut count,
     );
-    say(b"window", &[a, m])
-        && say(b"number", &[w.number as u16])
-        && say_columns(12, &border, &prefix, &cover, &best, &count)
-        && say_total(w.total)
+    say(rt, b"window", &[a, m])
+        && say(rt, b"number", &[w.number as u16])
+        && say_columns(rt, 12, &border, &prefix, &cover, &best, &count)
+        && say_total(rt, w.total)
 }
 
 // ---- answers
 
-fn normal(x: &[u8]) -> bool {
+fn normal(rt: &HostRuntime, x: &[u8]) -> bool {
     let f = finder::normal_form(x, x.len());
-    say(b"normal", &[f.k1, f.k2, f.k])
+    say(rt, b"normal", &[f.k1, f.k2, f.k])
 }
 
-fn breakdown(x: &[u8]) -> bool {
+fn breakdown(rt: &HostRuntime, x: &[u8]) -> bool {
     let b = finder::breakdown(x);
     let parts = b.parts;
     let mut t = [0u16; words::BREAKDOWN_PLACES];
@@ -129,13 +130,13 @@ fn breakdown(x: &[u8]) -> bool {
         t[d] = p.len;
         d += 1;
     }
-    say_first(b"breakdown", &t, words::wide(b.used))
+    say_first(rt, b"breakdown", &t, words::wide(b.used))
 }
 
-fn covers(x: &[u8]) -> bool {
+fn covers(rt: &HostRuntime, x: &[u8]) -> bool {
     let mut t = [0u16; ROWS];
     let l = finder::cover_list(x, &mut t);
-    say_first(b"covers", &t, words::wide(l.used))
+    say_first(rt, b"covers", &t, words::wide(l.used))
 }
 
 // A cover test as a number: a refused one is ten and its number.
@@ -148,7 +149,7 @@ fn told(answer: words::CoverTest) -> u16 {
 }
 
 // The cover tests of the whole log, for q from 0 to one too many.
-fn tests(x: &[u8]) -> bool
+fn tests(rt: &HostRuntime, x: &[u8]) -> bool
     requires { length x.now ≤ 28 }
 {
     let mut t = [0u16; ROWS];
@@ -157,31 +158,39 @@ fn tests(x: &[u8]) -> bool
         t[q] = told(finder::cover_test(x, x.len(), q));
         q += 1;
     }
-    say_first(b"tests", &t, x.len() + 2)
+    say_first(rt, b"tests", &t, x.len() + 2)
 }
 
-fn weighed(x: &[u8]) -> bool {
+fn weighed(rt: &HostRuntime, x: &[u8]) -> bool {
     let w = finder::weighed_list(x, x.len());
     let lens = w.lens;
-    say_first(b"weighed", &lens, words::wide(w.used)) && say(b"limit", &[w.limit])
+    say_first(rt, b"weighed", &lens, words::wide(w.used)) && say(rt, b"limit", &[w.limit])
 }
 
-fn pattern(x: &[u8]) -> bool {
+fn pattern(rt: &HostRuntime, x: &[u8]) -> bool {
     let no = finder::best_pattern_number(x);
     if no != 0 {
-        return say(b"pattern refused", &[no as u16]);
+        return say(rt, b"pattern refused", &[no as u16]);
     }
-    output::write(b"pattern ") && output::write(finder::best_pattern(x)) && output::write(b"\n")
+    output::write(rt, b"pattern ")
+        && output::write(rt, finder::best_pattern(x))
+        && output::write(rt, b"\n")
 }
 
 // The number, held and the ceiling.
-pub fn ceiling(x: &[u8]) -> bool {
+pub fn ceiling(rt: &HostRuntime, x: &[u8]) -> bool {
     let c = finder::ceiling(x);
-    say(b"ceiling", &[c.number as u16, c.held as u16, c.ceiling])
+    say(rt, b"ceiling", &[c.number as u16, c.held as u16, c.ceiling])
 }
 
-pub fn answers(x: &[u8]) -> bool
+pub fn answers(rt: &HostRuntime, x: &[u8]) -> bool
     requires { length x.now ≤ 28 }
 {
-    normal(x) && breakdown(x) && covers(x) && tests(x) && weighed(x) && pattern(x) && ceiling(x)
+    normal(rt, x)
+        && breakdown(rt, x)
+        && covers(rt, x)
+        && tests(rt, x)
+        && weighed(rt, x)
+        && pattern(rt, x)
+        && ceiling(rt, x)
 }

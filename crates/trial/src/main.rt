@@ -62,7 +62,7 @@ fn long_logs(t: Tally) -> Tally {
     long::of(f.begin(b"random over 2 letters"), RANDOM)
 }
 
-fn main() {
-    let a = orders(small_windows(small_logs(Tally::new())));
+fn main(rt: HostRuntime) {
+    let a = orders(small_windows(small_logs(Tally::new(rt))));
     long_logs(about_the_ceiling(some_files(a))).close();
 }

@@ -47,57 +47,65 @@ pub const LEFT_SEED_COUNT: u8 = 42;
 pub const ORDER: u8 = 50;
 
 // Which of the two tables of a call.
-fn table(whole: bool, call: u8) -> bool {
+fn table(rt: &HostRuntime, whole: bool, call: u8) -> bool {
     match call {
-        BEST | LEFT_COVER | LEFT_SEED => say(whole, b", best"),
-        COUNT | LEFT_COVER_COUNT | LEFT_SEED_COUNT => say(whole, b", count"),
+        BEST | LEFT_COVER | LEFT_SEED => say(rt, whole, b", best"),
+        COUNT | LEFT_COVER_COUNT | LEFT_SEED_COUNT => say(rt, whole, b", count"),
         _ => whole,
     }
 }
 
-fn column(whole: bool, call: u8) -> bool {
+fn column(rt: &HostRuntime, whole: bool, call: u8) -> bool {
     match call {
-        BORDER => say(whole, b" border_table"),
-        PREFIX => say(whole, b" prefix_table"),
-        COVER => say(whole, b" cover_table"),
-        BEST | COUNT | ENHANCED => table(say(whole, b" enhanced_table"), call),
-        _ => say(whole, b" window"),
+        BORDER => say(rt, whole, b" border_table"),
+        PREFIX => say(rt, whole, b" prefix_table"),
+        COVER => say(rt, whole, b" cover_table"),
+        BEST | COUNT | ENHANCED => table(rt, say(rt, whole, b" enhanced_table"), call),
+        _ => say(rt, whole, b" window"),
     }
 }
 
-fn left(whole: bool, call: u8) -> bool {
+fn left(rt: &HostRuntime, whole: bool, call: u8) -> bool {
     match call {
-        LEFT_COVERS | LEFT_COVER | LEFT_COVER_COUNT => table(say(whole, b" left_covers"), call),
-        _ => table(say(whole, b" left_seeds"), call),
+        LEFT_COVERS | LEFT_COVER | LEFT_COVER_COUNT => table(
+            rt,
+            say(rt, whole, b" left_covers"),
+            call,
+        ),
+        _ => table(rt, say(rt, whole, b" left_seeds"), call),
     }
 }
 
-fn answer(whole: bool, call: u8) -> bool {
+fn answer(rt: &HostRuntime, whole: bool, call: u8) -> bool {
     match call {
-        NORMAL => say(whole, b" normal_form"),
-        BREAKDOWN => say(whole, b" breakdown"),
-        COVER_TEST => say(whole, b" cover_test"),
-        COVER_LIST => say(whole, b" cover_list"),
-        WEIGHED => say(whole, b" weighed_list"),
-        BEST_PATTERN => say(whole, b" best_pattern"),
-        CEILING => say(whole, b" ceiling"),
-        _ => say(whole, b" file"),
+        NORMAL => say(rt, whole, b" normal_form"),
+        BREAKDOWN => say(rt, whole, b" breakdown"),
+        COVER_TEST => say(rt, whole, b" cover_test"),
+        COVER_LIST => say(rt, whole, b" cover_list"),
+        WEIGHED => say(rt, whole, b" weighed_list"),
+        BEST_PATTERN => say(rt, whole, b" best_pattern"),
+        CEILING => say(rt, whole, b" ceiling"),
+        _ => say(rt, whole, b" file"),
     }
 }
 
 // Prints the name.
-pub fn name(whole: bool, call: u8) -> bool {
+pub fn name(rt: &HostRuntime, whole: bool, call: u8) -> bool {
     if ORDER <= call {
-        return number(say(whole, b" cover_test, sentence"), (call - ORDER) as u64);
+        return number(
+            rt,
+            say(rt, whole, b" cover_test, sentence"),
+            (call - ORDER) as u64,
+        );
     }
     if LEFT_COVERS <= call {
-        return left(whole, call);
+        return left(rt, whole, call);
     }
     if NORMAL <= call {
-        return answer(whole, call);
+        return answer(rt, whole, call);
     }
     if WINDOW < call {
-        return column(say(whole, b" window,"), call - WINDOW);
+        return column(rt, say(rt, whole, b" window,"), call - WINDOW);
     }
-    column(whole, call)
+    column(rt, whole, call)
 }

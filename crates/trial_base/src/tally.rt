@@ -10,6 +10,7 @@ pub struct Tally {
     pub different: u64,
     pub before: u64,
     pub whole: bool,
+    rt: HostRuntime,
 }
 
 // At the greatest number a count stays: it must not come round to 0.
@@ -26,34 +27,35 @@ fn byte(b: u8) -> u64 {
 }
 
 // The first twelve readings: the whole of a small log.
-fn readings(whole: bool, x: &[u8]) -> bool {
+fn readings(rt: &HostRuntime, whole: bool, x: &[u8]) -> bool {
     let mut all = whole;
     let mut k = 0;
     while k < x.len() {
         if k == 12 {
             return all;
         }
-        all = number(all, byte(x[k]));
+        all = number(rt, all, byte(x[k]));
         k += 1;
     }
     all
 }
 
-fn tell(whole: bool, call: u8, x: &[u8], row: usize) -> bool {
-    let named = calls::name(say(whole, b" FIRST DIFFERENT:"), call);
-    let placed = number(say(named, b", row"), row as u64);
-    let measured = number(say(placed, b", length"), x.len() as u64);
-    say(readings(say(measured, b":"), x), b";")
+fn tell(rt: &HostRuntime, whole: bool, call: u8, x: &[u8], row: usize) -> bool {
+    let named = calls::name(rt, say(rt, whole, b" FIRST DIFFERENT:"), call);
+    let placed = number(rt, say(rt, named, b", row"), row as u64);
+    let measured = number(rt, say(rt, placed, b", length"), x.len() as u64);
+    say(rt, readings(rt, say(rt, measured, b":"), x), b";")
 }
 
 impl Tally {
-    pub fn new() -> Tally {
+    pub fn new(rt: HostRuntime) -> Tally {
         Tally {
             tried: 0,
             compared: 0,
             different: 0,
             before: 0,
             whole: true,
+            rt,
         }
     }
 
@@ -64,13 +66,14 @@ impl Tally {
             compared: 0,
             different: 0,
             before: self.before,
-            whole: say(self.whole, name),
+            whole: say(&self.rt, self.whole, name),
+            rt: self.rt,
         }
     }
 
     // Goes on with it.
     pub fn say(mut self, text: &[u8]) -> Tally {
-        self.whole = say(self.whole, text);
+        self.whole = say(&self.rt, self.whole, text);
         self
     }
 
@@ -87,7 +90,7 @@ impl Tally {
             return self;
         }
         if self.different == 0 {
-            self.whole = tell(self.whole, call, x, row);
+            self.whole = tell(&self.rt, self.whole, call, x, row);
         }
         self.different = one_more(self.different);
         self
@@ -95,15 +98,17 @@ impl Tally {
 
     // Ends the kind's line. What was tried is logs or files.
     pub fn end(mut self, tried: &[u8]) -> Tally {
-        let counted = say(number(self.whole, self.tried), tried);
-        let compared = say(number(counted, self.compared), b" comparisons,");
-        self.whole = say(number(compared, self.different), b" different\n");
+        let rt = &self.rt;
+        let counted = say(rt, number(rt, self.whole, self.tried), tried);
+        let compared = say(rt, number(rt, counted, self.compared), b" comparisons,");
+        self.whole = say(rt, number(rt, compared, self.different), b" different\n");
         self.before = plus(self.before, self.different);
         self
     }
 
     // The last line: what differed of all kinds.
     pub fn close(self) {
-        say(decimal(self.whole, self.before), b" different\n");
+        let rt = &self.rt;
+        say(rt, decimal(rt, self.whole, self.before), b" different\n");
     }
 }
