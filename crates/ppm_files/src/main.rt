@@ -4,6 +4,8 @@
 
 ghost use Rattle.std.specs.Prelude.{◌≤◌};
 
+use std::io::Read;
+
 fn print_byte(rt: &HostRuntime, b: u8) -> bool {
     output::write(rt, b" ") && output::decimal(rt, b as u64)
 }
@@ -32,7 +34,7 @@ fn print_file(rt: &HostRuntime, file: &[u8]) -> bool {
         && print_bytes(rt, &file[0..n])
 }
 
-fn make(rt: &HostRuntime, from: &mut File) -> bool {
+fn make(rt: &HostRuntime, from: &mut impl Read) -> bool {
     let mut file = [0u8; logfile::LONGEST_FILE];
     let made = ppm_lines::make_file(from, &rt.stdout(), &mut file);
     let n = made.len;
