@@ -2,7 +2,7 @@
 
 if [ -z "${FINDER_LIB_DIR:-}" ]; then
     root=$(realpath "$(dirname "${BASH_SOURCE[0]}")/..")
-    (cd "$root" && rt staticlib cabinet)
+    "$root/tools/build" cabinet
     FINDER_LIB_DIR=$root/target/staticlib
 fi
 FINDER_LIB_DIR=$(realpath "$FINDER_LIB_DIR")

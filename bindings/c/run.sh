@@ -1,5 +1,5 @@
 #!/usr/bin/env bash
-# Header, example, tests and the stack of every call, in C. The library is in FINDER_LIB_DIR, else where `rt staticlib cabinet` puts it.
+# Header, example, tests and the stack of every call, in C. The library is in FINDER_LIB_DIR, else where `tools/build cabinet` puts it.
 set -euo pipefail
 cd "$(dirname "$0")"
 library=${FINDER_LIB_DIR:-../../target/staticlib}/libcabinet.a

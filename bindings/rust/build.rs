@@ -1,4 +1,4 @@
-//! Finds libcabinet.a: in FINDER_LIB_DIR, else where `rt staticlib cabinet` puts it.
+//! Finds libcabinet.a: in FINDER_LIB_DIR, else where `tools/build cabinet` puts it.
 use std::{env, path::PathBuf};
 
 fn main() {
@@ -7,7 +7,7 @@ fn main() {
     let dir = env::var_os("FINDER_LIB_DIR").map_or(here.join("../../target/staticlib"), PathBuf::from);
     let archive = dir.join("libcabinet.a");
     if !archive.is_file() {
-        panic!("{} is missing: run `rt staticlib cabinet`, or set FINDER_LIB_DIR", archive.display());
+        panic!("{} is missing: run `tools/build cabinet`, or set FINDER_LIB_DIR", archive.display());
     }
     println!("cargo:rerun-if-changed={}", archive.display());
     println!("cargo:rustc-link-search=native={}", dir.display());

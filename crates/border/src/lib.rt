@@ -6,13 +6,14 @@ ghost use Rattle.words.specs.Tables.{border_row, written};
 ghost use Rattle.words.proofs.Tables.{Room, Filled};
 
 // The border at row r, from the one of the row before it, b, and the rows before that: along the chain of borders, the first that x[r] can follow.
+#[tactic(auto, using(words::proofs::Borders::candidate_hit, words::proofs::Borders::candidate_none))]
 fn extend(x: &[u8], t: &[u16], r: usize, b: usize) -> usize
     requires { Filled border_row x.now t.now r × (0 < r) × (b ≡ border_row x.now (r - 1)) }
     ensures { result ≡ border_row x.now r }
 {
     let reading = x[r];
     let mut k = b;
-    loop {
+    'chain: loop {
         if x[k] == reading {
             return k + 1;
         }

@@ -1,6 +1,6 @@
 -- The sweep that tests a cover: all up to the last end is covered, and no occurrence before s ends later. Assumes nothing.
-use mathlib.Core.Bool.{Bool, true, false, cond}
-use mathlib.Core.Path.{◌≡◌, refl, sym, ap, ◌∙◌}
+use mathlib.Core.Bool.{false, cond}
+use mathlib.Core.Path.{◌≡◌, sym, ◌∙◌}
 use mathlib.Core.List.{List}
 use mathlib.Core.Logic.{⊎_elim}
 use Prim.Native.Nat.{ℕ, ◌+◌, ◌-◌, ◌≤◌, ◌<◌}
@@ -14,8 +14,8 @@ use Rattle.words.specs.Tables.{prefix_row}
 use Rattle.words.proofs.Tests.{cond_case, not_passed, le_or_lt}
 use Rattle.words.proofs.Tables.{Holds}
 use Rattle.words.proofs.Occurrences.{Occurs, occurs_shorter}
-use Rattle.words.proofs.Prefixes.{Reaches, prefix_reaches, prefix_most}
-use Rattle.words.proofs.Covers.{Inside, Covers, covers_iff, inside_wider}
+use Rattle.words.proofs.Prefixes.{prefix_reaches, prefix_most}
+use Rattle.words.proofs.Covers.{Inside, covers_iff, inside_wider}
 
 pub record Swept (x : List ℕ) (q s end : ℕ) : Type 0 where
   pub done : s + q ≤ length x + 1

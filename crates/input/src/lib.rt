@@ -3,7 +3,7 @@
 
 ghost use Rattle.std.specs.Prelude.{◌≤◌, length, IfSome};
 
-use std::env::Env;
+use std::env::{Env, FillError};
 use std::fs::{File, Files};
 use std::io::Read;
 
@@ -30,9 +30,13 @@ pub fn open<R: Files>(rt: &R, path: &[u8]) -> Option<R::File> {
     File::open(rt, name).ok()
 }
 
-// Argument k, put at the buffer's start: how many bytes it has; nothing where there is none.
+// Argument k, put at the buffer's start: how many bytes it has, 0 where it does not fit; nothing where there is no such argument.
 pub fn argument(rt: &impl Env, k: usize, buffer: &mut [u8]) -> Option<usize>
     ensures { IfSome result (λ n. n ≤ length buffer.new) }
 {
-    rt.arg(k, buffer).ok()
+    match rt.arg(k, buffer) {
+        Ok(n) => Some(n),
+        Err(FillError::TooLong) => Some(0),
+        Err(FillError::NotPresent) => None,
+    }
 }

@@ -9,7 +9,6 @@ use lib.ListN.{length}
 use borrow.Author.Tests.{eqb-true, ne_eqb, le-ltb}
 use Rattle.words.specs.declared.CoverTest.{CoverTest}
 use Rattle.words.specs.declared.CoverTest.TheVariants.{Yes, No, Refused}
-use Rattle.words.specs.Words.{covers}
 use Rattle.words.specs.Refusals.{log_no, cover_test_no, outside, place}
 use Rattle.words.specs.Answers.{answer, accepted, cover_test_answer}
 use Rattle.words.proofs.Tests.{by_test}

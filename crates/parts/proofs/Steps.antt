@@ -7,7 +7,7 @@ use native.Mathlib.Nat.{mul-le-mul_right, mul_comm, mul_assoc, pow-succ', mod-lt
 use native.Mathlib.Numerals.{add-one}
 use native.Mathlib.Omega.{arith}
 use lib.Pow.{pow_mono}
-use lib.Dec.{eqb, ltb}
+use lib.Dec.{eqb}
 use lib.ListN.{length, get_or, set, replicate, length-append}
 use borrow.Author.Tests.{lt-ltb, le-ltb}
 use mir.Syntax.{w16}
@@ -17,12 +17,12 @@ use Rattle.words.specs.declared.Breakdown.{Breakdown}
 use Rattle.words.specs.Words.{border, normal, next, breakdown}
 use Rattle.words.specs.Tables.{border_row}
 use Rattle.words.specs.Refusals.{longest}
-use Rattle.words.specs.Answers.{breakdown_places, places, no_part, broken}
+use Rattle.words.specs.Answers.{breakdown_places, no_part, broken}
 use Rattle.words.proofs.Tests.{le_or_lt}
 use Rattle.words.proofs.Tables.{Holds}
 use Rattle.words.proofs.Borders.{border_lt}
 use Rattle.words.proofs.Limits.{breakdown_places_lem}
-use Rattle.words.proofs.Breakdowns.{next_half, breakdown_none, breakdown_more, breakdown_length}
+use Rattle.words.proofs.Breakdowns.{next_half, breakdown_none, breakdown_more}
 use Rattle.words.proofs.Places.{places_more, places_none}
 use Rattle.parts.specs.Depth.{Deep, Broken}
 

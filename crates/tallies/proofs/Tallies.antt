@@ -1,7 +1,7 @@
 -- The tallies, carried from j to j + 1 down the weighed borders of the prefix of length j + 1. Assumes nothing.
 use mathlib.Core.Path.{◌≡◌, sym, ◌∙◌}
 use mathlib.Core.List.{List}
-use mathlib.Core.Logic.{◌⊎◌, inl, inr, ⊎_elim}
+use mathlib.Core.Logic.{inl, inr, ⊎_elim}
 use Prim.Native.Nat.{ℕ, ◌+◌, ◌-◌, ◌≤◌, ◌<◌, min}
 use native.Mathlib.Nat.{eq-or-lt_of_le, add-sub_cancel, sub_self}
 use native.Mathlib.Omega.{arith}

@@ -1,13 +1,13 @@
 -- Breakdowns under any rule: each part is at most half of the one before, so that one place for each power of two suffices. Assumes nothing.
 use mathlib.Core.Bool.{Bool}
-use mathlib.Core.Path.{◌≡◌, refl, sym, ap, ◌∙◌}
+use mathlib.Core.Path.{◌≡◌, refl, ap}
 use mathlib.Core.List.{List, [], ◌∷◌}
-use Prim.Native.Nat.{ℕ, zero, suc, ◌+◌, ◌-◌, ◌*◌, ◌/◌, ◌%◌, ◌^◌, ◌≤◌, ◌<◌}
+use Prim.Native.Nat.{ℕ, zero, suc, ◌-◌, ◌*◌, ◌/◌, ◌%◌, ◌^◌, ◌≤◌, ◌<◌}
 use native.Mathlib.Nat.{one-mul, le_of_eq, le_trans, le-div_iff_mul-le, two-pow-succ, mod-lt, div-add-mod', div-mul-le_self, mul-le-mul_right}
 use native.Mathlib.Omega.{arith}
 use lib.Dec.{ltb}
 use lib.ListN.{length, get_or}
-use borrow.Author.Tests.{ltb-true, ltb-false}
+use borrow.Author.Tests.{ltb-true}
 use Rattle.words.specs.declared.Part.{Part}
 use Rattle.words.specs.Words.{border, normal, next, breakdown}
 use Rattle.words.specs.Refusals.{longest}

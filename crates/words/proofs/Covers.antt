@@ -2,7 +2,7 @@
 -- itself. Where each reading agrees with itself: a prefix covers itself, and a border of at least half the length covers. Where readings agree by
 -- being equal: a cover of a cover covers, and of two covers of one prefix the shorter covers the longer. Assumes nothing.
 use mathlib.Core.Bool.{Bool, true, ◌&&◌}
-use mathlib.Core.Path.{◌≡◌, refl, sym, ap, ◌∙◌}
+use mathlib.Core.Path.{◌≡◌}
 use mathlib.Core.List.{List}
 use mathlib.Core.Logic.{◌⊎◌, inl, inr, ⊎_elim, ◌↔◌}
 use Prim.Native.Nat.{ℕ, suc, ◌+◌, ◌-◌, ◌≤◌, ◌<◌}
@@ -10,11 +10,11 @@ use native.Mathlib.Nat.{le_antisymm}
 use native.Mathlib.Omega.{arith}
 use lib.Dec.{eqb, leb, ltb}
 use borrow.Author.Tests.{leb-true, le-leb, lt-ltb, ltb-true}
-use Rattle.words.specs.Search.{all, any, greatest}
+use Rattle.words.specs.Search.{all, any}
 use Rattle.words.specs.Words.{occurs, inside, covers, cover}
 use Rattle.words.proofs.Tests.{and3, le_or_lt}
 use Rattle.words.proofs.Search.{all_at, at_all, any_some, some_any, greatest_lt, greatest_or, greatest_most, greatest_is}
-use Rattle.words.proofs.Occurrences.{Occurs, Reflexive, eqb_refl, occurs_iff, occurs_same, occurs_self, occurs_through, occurs_back}
+use Rattle.words.proofs.Occurrences.{Occurs, Reflexive, occurs_iff, occurs_same, occurs_self, occurs_through, occurs_back}
 use Rattle.words.proofs.Borders.{Border}
 
 -- an occurrence of x[1..q] that ends at or before i, and the position after p readings inside it

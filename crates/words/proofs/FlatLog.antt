@@ -7,7 +7,7 @@ use native.Mathlib.Omega.{arith}
 use lib.Dec.{eqb}
 use lib.ListN.{get_or, replicate, length-replicate, get_or-replicate}
 use Rattle.words.specs.Search.{rising}
-use Rattle.words.specs.Words.{border, cover, covers, best, count, normal, cover_list, weighed}
+use Rattle.words.specs.Words.{border, cover, best, count, normal, cover_list, weighed}
 use Rattle.words.specs.Tables.{tabulate}
 use Rattle.words.proofs.Tests.{le_or_lt}
 use Rattle.words.proofs.Occurrences.{Occurs, is_same}

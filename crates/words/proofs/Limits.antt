@@ -1,8 +1,8 @@
 -- The exponent of the greatest power of two not above a number, and the places that follow from the longest log. Assumes nothing.
-use mathlib.Core.Path.{◌≡◌, refl, sym, ◌∙◌}
+use mathlib.Core.Path.{◌≡◌}
 use mathlib.Core.Logic.{⊎_elim}
 use Prim.Native.Nat.{ℕ, zero, suc, ◌+◌, ◌^◌, ◌≤◌, ◌<◌}
-use native.Mathlib.Nat.{two-pow-succ, le_refl}
+use native.Mathlib.Nat.{two-pow-succ}
 use native.Mathlib.Omega.{arith}
 use lib.Dec.{leb}
 use lib.Pow.{pow_mono}
@@ -11,7 +11,7 @@ use Rattle.words.specs.Words.{limit}
 use Rattle.words.specs.Refusals.{longest}
 use Rattle.words.specs.Answers.{weighed_places, breakdown_places}
 use Rattle.words.proofs.Tests.{le_or_lt}
-use Rattle.words.proofs.Search.{greatest_passes, greatest_most, greatest_is}
+use Rattle.words.proofs.Search.{greatest_passes, greatest_most}
 
 -- a number is below 2 to its power
 below_power : (n : ℕ) → n < 2 ^ n

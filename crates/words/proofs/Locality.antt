@@ -1,21 +1,17 @@
 -- A prefix is judged by its own readings alone: two logs whose first n readings are equal are judged alike at every i up to n. Assumes nothing.
-use mathlib.Core.Bool.{Bool, true, false, cond, ◌&&◌}
-use mathlib.Core.Path.{◌≡◌, refl, sym, ap, ◌∙◌}
+use mathlib.Core.Bool.{Bool}
+use mathlib.Core.Path.{◌≡◌, sym}
 use mathlib.Core.List.{List}
-use mathlib.Core.Logic.{⊎_elim}
 use Prim.Native.Nat.{ℕ, ◌+◌, ◌-◌, ◌≤◌, ◌<◌}
 use native.Mathlib.Omega.{arith}
-use lib.Dec.{eqb}
-use lib.ListN.{length, get_or, take}
+use lib.ListN.{get_or, take}
 use lib.Seq.{get_or-take}
-use Rattle.words.specs.declared.Part.{Part}
 use Rattle.words.specs.Words.{is_border, border, normal, covers, cover, weighs, weighed}
 use Rattle.words.proofs.Tests.{both_ways}
 use Rattle.words.proofs.Search.{greatest_same, falling_same}
 use Rattle.words.proofs.Occurrences.{Occurs}
 use Rattle.words.proofs.Borders.{Border, is_border_iff}
 use Rattle.words.proofs.Covers.{Covers, covers_iff}
-use Rattle.words.proofs.Weighs.{Weighs, weighs_iff}
 
 -- the first n readings of x are those of y
 abbrev pub Alike : List ℕ → List ℕ → ℕ → Type 0

@@ -10,7 +10,7 @@ use native.Mathlib.Omega.{arith}
 use lib.Dec.{eqb}
 use lib.ListN.{length, get_or, take, drop, length-take, length-drop}
 use lib.Seq.{ext_get_or, get_or-take, get_or-drop}
-use Rattle.words.specs.Words.{occurs, border, prefix, covers, cover, best, count, cover_list, weighed}
+use Rattle.words.specs.Words.{border, prefix, covers, cover, best, count, cover_list, weighed}
 use Rattle.words.proofs.Listings.{Falling, Rising, falling_one, rising_one}
 use Rattle.words.proofs.Occurrences.{occurs_iff, occurs_part, occurs_same, same, is_same}
 use Rattle.words.proofs.Borders.{Border, border_border, border_most}

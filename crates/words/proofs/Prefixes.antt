@@ -1,18 +1,16 @@
 -- The prefix table. `Reaches ag x j m`: the first m readings occur after j, within the log. The table's entry is the m at which they stop;
 -- and where readings agree by being equal, a stretch that is known to occur tells of the places inside it. Assumes nothing.
 use mathlib.Core.Bool.{Bool, true}
-use mathlib.Core.Path.{◌≡◌, refl, sym, ap, ◌∙◌}
+use mathlib.Core.Path.{◌≡◌, sym, ◌∙◌}
 use mathlib.Core.List.{List}
-use mathlib.Core.Logic.{⊎_elim}
 use Prim.Native.Nat.{ℕ, suc, ◌+◌, ◌-◌, ◌≤◌, ◌<◌}
 use native.Mathlib.Nat.{add-sub_cancel}
 use native.Mathlib.Omega.{arith}
 use lib.ListN.{length, get_or}
 use lib.Dec.{eqb}
-use borrow.Author.Tests.{eq-eqb, eqb-true}
 use Rattle.words.specs.Words.{occurs, prefix}
 use Rattle.words.proofs.Search.{greatest_lt, greatest_passes, greatest_most, greatest_is}
-use Rattle.words.proofs.Occurrences.{Occurs, Reflexive, occurs_iff, occurs_none, occurs_same, occurs_shorter, occurs_more, occurs_self, same, is_same, at}
+use Rattle.words.proofs.Occurrences.{Occurs, Reflexive, occurs_iff, occurs_none, occurs_shorter, occurs_more, occurs_self, same, is_same, at}
 
 pub record Reaches (ag : ℕ → ℕ → Bool) (x : List ℕ) (j m : ℕ) : Type 0 where
   pub within : j + m ≤ length x

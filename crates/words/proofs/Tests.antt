@@ -1,6 +1,6 @@
 -- Cases: on a test, on an order, on a number below a bound. Assumes nothing.
 use mathlib.Core.Bool.{Bool, true, false, cond, ◌&&◌, ◌||◌, true≢false}
-use mathlib.Core.Path.{◌≡◌, refl, sym, ◌∙◌}
+use mathlib.Core.Path.{◌≡◌, refl, sym}
 use mathlib.Core.Logic.{◌⊎◌, inl, inr, ⊎_elim, ◌↔◌}
 use Prim.Native.Nat.{ℕ, suc, ◌≤◌, ◌<◌}
 use native.Mathlib.Nat.{eq-or-lt_of_le, le_of_suc-le-suc, lt_of_not-le}

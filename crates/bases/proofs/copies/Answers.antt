@@ -1,5 +1,4 @@
 -- `bases::copies` meets its contract. Assumes nothing.
-use borrow.Author.Rules.{rules}
 use Rattle.words.specs.Tables.{border_row, cover_row}
 use Rattle.bases.proofs.Steps.{copied}
 use Rattle.bases.proofs.copies.Goals as goal

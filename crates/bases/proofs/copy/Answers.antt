@@ -1,9 +1,6 @@
 -- `bases::copy` meets its contract. The loop's invariant is `Rows`, its measure what is left of x. Assumes nothing.
-use Prim.Native.Nat.{◌-◌}
 use borrow.Author.Rules.{rules}
-use lib.ListN.{length}
-use Rattle.words.proofs.Tables.{Rows, rows_none, rows_length, rows_inside, rows_more}
-use Rattle.bases.specs.Copies.{copy_row}
+use Rattle.words.proofs.Tables.{rows_none, rows_length, rows_inside, rows_more}
 use Rattle.bases.proofs.Steps.{copy_row_lem, copy_done}
 use Rattle.bases.proofs.copy.Goals as goal
 

@@ -1,10 +1,7 @@
 -- `border::fill` meets its contract. The loop's invariant is `Rows`, with the last border in b; its measure what is left of x. Assumes nothing.
-use mathlib.Core.Path.{◌≡◌}
-use Prim.Native.Nat.{◌-◌, ◌<◌}
 use borrow.Author.Rules.{rules}
-use lib.ListN.{length}
 use Rattle.words.specs.Tables.{border_row}
-use Rattle.words.proofs.Tables.{Rows, rows_length, rows_inside, rows_filled, rows_more, rows_done}
+use Rattle.words.proofs.Tables.{rows_length, rows_inside, rows_filled, rows_more, rows_done}
 use Rattle.words.proofs.Borders.{border_fits}
 use Rattle.border.proofs.Steps.{first_row, fill_start, row_before}
 use Rattle.border.proofs.fill.Goals as goal

@@ -1,12 +1,9 @@
 -- `border::fill` meets its contract. The loop's invariant is `Rows`, with the last border in b; its measure what is left of x. Assumes nothing.
 use mathlib.Core.Path.{◌≡◌}
 use Prim.Native.Nat.{◌-◌, ◌<◌}
-use borrow.Author.Rules.{rules}
 use lib.ListN.{length}
 use Rattle.words.specs.Tables.{border_row}
-use Rattle.words.proofs.Tables.{Rows, rows_length, rows_inside, rows_filled, rows_more, rows_done}
-use Rattle.words.proofs.Borders.{border_fits}
-use Rattle.border.proofs.Steps.{first_row, fill_start, row_before}
+use Rattle.words.proofs.Tables.{Rows}
 use Rattle.border.proofs.fill.Given as goal
 
 abbrev pub invariant-loop-r : goal.invariant-loop-r

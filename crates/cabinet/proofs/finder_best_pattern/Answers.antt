@@ -1,5 +1,4 @@
 -- `cabinet::finder_best_pattern` meets its contract. Assumes nothing.
-use borrow.Author.Rules.{rules}
 use Rattle.cabinet.proofs.Steps.{pattern_span_lem}
 use Rattle.cabinet.proofs.finder_best_pattern.Goals as goal
 

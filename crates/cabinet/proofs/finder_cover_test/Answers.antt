@@ -1,5 +1,4 @@
 -- `cabinet::finder_cover_test` meets its contract. Assumes nothing.
-use borrow.Author.Rules.{rules}
 use Rattle.cabinet.proofs.Steps.{covers_yes, covers_no, covers_refused}
 use Rattle.cabinet.proofs.finder_cover_test.Goals as goal
 

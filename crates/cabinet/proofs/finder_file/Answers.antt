@@ -1,5 +1,4 @@
 -- `cabinet::finder_file` meets its contract. Assumes nothing.
-use borrow.Author.Rules.{rules}
 use Rattle.cabinet.proofs.Steps.{file_refused, file_done}
 use Rattle.cabinet.proofs.finder_file.Goals as goal
 

@@ -1,10 +1,8 @@
 -- `candidates::rows` meets its contract. The loop's invariant: both tables have their first r rows written; its measure is what is left of x. Assumes nothing.
 use Prim.Native.Nat.{◌-◌}
-use borrow.Author.Rules.{rules}
 use lib.ListN.{length}
-use Rattle.words.proofs.Tables.{Rows, rows_none, rows_length, rows_inside, rows_filled, rows_more, rows_done}
+use Rattle.words.proofs.Tables.{Rows}
 use Rattle.candidates.specs.Candidates.{bare_row, fall_row}
-use Rattle.candidates.proofs.Steps.{bare_fits, fall_fits}
 use Rattle.candidates.proofs.rows.Given as goal
 
 abbrev pub invariant-loop-r : goal.invariant-loop-r

@@ -1,8 +1,6 @@
 -- `ceilings::count` meets its contract. The loop's invariant is `Counted`, its measure what is left of x. Assumes nothing.
-use Prim.Native.Nat.{◌-◌}
 use borrow.Author.Rules.{rules}
-use lib.ListN.{length}
-use Rattle.ceilings.proofs.Steps.{Counted, counted_none, counted_fits, counted_more, counted_done}
+use Rattle.ceilings.proofs.Steps.{counted_none, counted_fits, counted_more, counted_done}
 use Rattle.ceilings.proofs.count.Goals as goal
 
 pub loop-p-init : goal.loop-p-init

@@ -1,5 +1,4 @@
 -- `ceilings::held` meets its contract. Assumes nothing.
-use borrow.Author.Rules.{rules}
 use Rattle.ceilings.proofs.Steps.{held_yes, held_not}
 use Rattle.ceilings.proofs.held.Goals as goal
 

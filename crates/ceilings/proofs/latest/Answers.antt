@@ -1,5 +1,4 @@
 -- `ceilings::latest` meets its contract. Assumes nothing.
-use borrow.Author.Rules.{rules}
 use Rattle.ceilings.proofs.Steps.{latest_part, latest_few}
 use Rattle.ceilings.proofs.latest.Goals as goal
 

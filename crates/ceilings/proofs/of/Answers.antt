@@ -1,5 +1,4 @@
 -- `ceilings::of` meets its contract. Assumes nothing.
-use borrow.Author.Rules.{rules}
 use Rattle.ceilings.proofs.Steps.{ceiling_fits, of_is}
 use Rattle.ceilings.proofs.of.Goals as goal
 

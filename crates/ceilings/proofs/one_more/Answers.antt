@@ -1,5 +1,4 @@
 -- `ceilings::one_more` meets its contract. Assumes nothing.
-use borrow.Author.Rules.{rules}
 use Rattle.ceilings.proofs.Steps.{one_hit, one_miss}
 use Rattle.ceilings.proofs.one_more.Goals as goal
 

@@ -1,8 +1,7 @@
 -- `ceilings::stuck` meets its contract. The loop's invariant is `Stuck`, its measure what is left of x. Assumes nothing.
 use Prim.Native.Nat.{◌-◌}
-use borrow.Author.Rules.{rules}
 use lib.ListN.{length}
-use Rattle.ceilings.proofs.Steps.{Stuck, stuck_none, stuck_fails, stuck_more, stuck_done}
+use Rattle.ceilings.proofs.Steps.{Stuck}
 use Rattle.ceilings.proofs.stuck.Given as goal
 
 abbrev pub invariant-loop-p : goal.invariant-loop-p

@@ -1,10 +1,8 @@
 -- `cover::advance` meets its contract. The loop's invariant: the window of the tree starts at p. The measure is what is left up to `to`. Assumes nothing.
 use mathlib.Core.Path.{◌≡◌}
 use Prim.Native.Nat.{◌≤◌, ◌-◌}
-use borrow.Author.Rules.{rules}
 use lib.ListN.{length}
 use Rattle.cover.specs.Tree.{Forest}
-use Rattle.cover.proofs.Steps.{advance_done}
 use Rattle.cover.proofs.advance.Given as goal
 
 abbrev pub invariant-loop-p : goal.invariant-loop-p

@@ -1,11 +1,9 @@
 -- `cover::find` meets its contract. The loop's invariant is `Walk` over a `Forest`, and that up keeps its length; its measure is q. Assumes nothing.
 use mathlib.Core.Path.{◌≡◌}
 use Prim.Native.Nat.{◌+◌, ◌-◌}
-use borrow.Author.Rules.{rules}
 use lib.ListN.{length}
 use Rattle.cover.proofs.Walk.{Walk}
 use Rattle.cover.specs.Tree.{Forest}
-use Rattle.cover.proofs.Steps.{find_first, find_found, find_inside, find_scaled, find_falls, find_shorter, find_on}
 use Rattle.cover.proofs.find.Given as goal
 
 abbrev pub invariant-loop-q : goal.invariant-loop-q

@@ -2,13 +2,10 @@
 -- starts no later than that of the row to come. The measure is what is left of x. Assumes nothing.
 use mathlib.Core.Path.{◌≡◌}
 use Prim.Native.Nat.{◌≤◌, ◌+◌, ◌-◌}
-use borrow.Author.Rules.{rules}
-use native.Mathlib.Omega.{arith}
-use lib.ListN.{length, length-set}
-use Rattle.words.proofs.Tables.{Rows, rows_none, rows_length, rows_inside, rows_filled, rows_more, rows_done}
+use lib.ListN.{length}
+use Rattle.words.proofs.Tables.{Rows}
 use Rattle.cover.specs.Tree.{Forest}
 use Rattle.words.specs.Tables.{border_row, cover_row}
-use Rattle.cover.proofs.Steps.{grow_first, grow_border, grow_below, grow_later, grow_window, window_first, grow_fits, grow_inside, grow_scaled, grow_count, grow_more}
 use Rattle.cover.proofs.grow.Given as goal
 
 abbrev pub invariant-loop-j : goal.invariant-loop-j

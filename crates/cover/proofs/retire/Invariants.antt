@@ -1,10 +1,8 @@
 -- `cover::retire` meets its contract. The loop's invariant is `Falling`, and that up and kids keep their lengths; its measure is q. Assumes nothing.
 use mathlib.Core.Path.{◌≡◌}
 use Prim.Native.Nat.{◌+◌}
-use borrow.Author.Rules.{rules}
 use lib.ListN.{length}
-use Rattle.cover.proofs.Tree.{Falling, fall_start, fall_done}
-use Rattle.cover.proofs.Steps.{retire_some, retire_row, retire_falls, retire_inside, retire_scaled, retire_counted, retire_next}
+use Rattle.cover.proofs.Tree.{Falling}
 use Rattle.cover.proofs.retire.Given as goal
 
 abbrev pub invariant-loop-kids : goal.invariant-loop-kids

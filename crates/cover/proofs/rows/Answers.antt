@@ -1,7 +1,4 @@
 -- `cover::rows` meets its contract. Assumes nothing.
-use mathlib.Core.Path.{◌∙◌}
-use borrow.Author.Rules.{rules}
-use lib.ListN.{length-set}
 use Rattle.cover.proofs.Steps.{root_counted}
 use Rattle.cover.proofs.rows.Goals as goal
 

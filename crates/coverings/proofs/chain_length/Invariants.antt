@@ -1,6 +1,5 @@
 -- `coverings::chain_length` meets its contract. The loop's invariant is `Counted`, its measure q. Assumes nothing.
-use borrow.Author.Rules.{rules}
-use Rattle.coverings.proofs.Lists.{Counted, counted_first, counted_falls, counted_next, counted_done}
+use Rattle.coverings.proofs.Lists.{Counted}
 use Rattle.coverings.proofs.chain_length.Given as goal
 
 abbrev pub invariant-loop-q : goal.invariant-loop-q

@@ -1,5 +1,4 @@
 -- `coverings::reach` meets its contract. Assumes nothing.
-use borrow.Author.Rules.{rules}
 use Rattle.coverings.proofs.Sweeps.{reach_on, reach_stays}
 use Rattle.coverings.proofs.reach.Goals as goal
 

@@ -1,8 +1,5 @@
 -- `coverings::sweep` meets its contract. The loop's invariant is `Swept`, its measure the places left. Assumes nothing.
-use Prim.Native.Nat.{◌+◌, ◌-◌}
-use borrow.Author.Rules.{rules}
-use lib.ListN.{length}
-use Rattle.coverings.proofs.Sweeps.{Swept, swept_none, swept_gap, swept_next, swept_done}
+use Rattle.coverings.proofs.Sweeps.{swept_none, swept_gap, swept_next, swept_done}
 use Rattle.coverings.proofs.sweep.Goals as goal
 
 pub loop-s-init : goal.loop-s-init

@@ -1,8 +1,7 @@
 -- `coverings::sweep` meets its contract. The loop's invariant is `Swept`, its measure the places left. Assumes nothing.
 use Prim.Native.Nat.{◌+◌, ◌-◌}
-use borrow.Author.Rules.{rules}
 use lib.ListN.{length}
-use Rattle.coverings.proofs.Sweeps.{Swept, swept_none, swept_gap, swept_next, swept_done}
+use Rattle.coverings.proofs.Sweeps.{Swept}
 use Rattle.coverings.proofs.sweep.Given as goal
 
 abbrev pub invariant-loop-s : goal.invariant-loop-s

@@ -1,6 +1,5 @@
 -- `coverings::write_chain` meets its contract. The loop's invariant is `Placed`, its measure q. Assumes nothing.
-use borrow.Author.Rules.{rules}
-use Rattle.coverings.proofs.Lists.{Placed, placed_first, placed_some, placed_inside, placed_fits, placed_falls, placed_next, placed_done}
+use Rattle.coverings.proofs.Lists.{placed_first, placed_some, placed_inside, placed_fits, placed_falls, placed_next, placed_done}
 use Rattle.coverings.proofs.write_chain.Goals as goal
 
 pub loop-q-init : goal.loop-q-init

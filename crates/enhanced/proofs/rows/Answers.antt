@@ -1,17 +1,12 @@
 -- `enhanced::rows` meets its contract. The loop's invariant: below j the rows of `best`, `count` and `chain` are Best, Count and the chain, from j on those of
 -- `best` are still borders and those of `chain` covers; last and held have the tallies of the first j prefixes, and sum is the total of the first j rows. The
 -- measure is what is left of x. Assumes nothing.
-use mathlib.Core.Path.{◌≡◌}
-use Prim.Native.Nat.{◌-◌}
 use borrow.Author.Rules.{rules}
-use lib.ListN.{length}
-use Rattle.words.specs.Search as Search
 use Rattle.words.specs.Tables.{border_row, best_row, count_row}
-use Rattle.words.proofs.Tables.{Rows, rows_none, rows_length, rows_inside, rows_filled, rows_more, rows_done, rows_under}
+use Rattle.words.proofs.Tables.{rows_none, rows_length, rows_inside, rows_filled, rows_more, rows_done, rows_under}
 use Rattle.words.proofs.Weighs.{heaviest_row}
-use Rattle.tallies.specs.Tallies.{Tallies}
 use Rattle.tallies.proofs.Steps.{first_tallies, still_cover, chain_more}
-use Rattle.enhanced.proofs.Steps.{used_row, best_fits, count_fits, total_small, total_none, total_more, total_done}
+use Rattle.enhanced.proofs.Steps.{best_fits, count_fits, total_small, total_none, total_more, total_done}
 use Rattle.enhanced.proofs.rows.Goals as goal
 
 pub loop-j-init : goal.loop-j-init
@@ -22,13 +17,13 @@ bounds-best-j c = search rows_inside
 
 pub row-p-requires : goal.row-p-requires
 row-p-requires c = (
-      search rules,
-      search rows_filled,
-      search still_cover,
-      search (rows_under best_row border_row),
-      search rules,
-      search total_small,
-    )
+  search rules,
+  search rows_filled,
+  search still_cover,
+  search (rows_under best_row border_row),
+  search rules,
+  search total_small,
+)
 
 pub overflow_cast-best : goal.overflow_cast-best
 overflow_cast-best c = search (best_fits, count_fits)
@@ -44,14 +39,14 @@ bounds-count-j c = search rows_inside
 
 pub loop-j-preserved : goal.loop-j-preserved
 loop-j-preserved c = (
-      search chain_more,
-      search (rules, rows_more),
-      search (rules, rows_more),
-      search rules,
-      search total_more,
-      search rules,
-      search rules,
-    )
+  search chain_more,
+  search (rules, rows_more),
+  search (rules, rows_more),
+  search rules,
+  search total_more,
+  search rules,
+  search rules,
+)
 
 pub shape_of-chain : goal.shape_of-chain
 shape_of-chain c = search rows_length

@@ -3,15 +3,13 @@
 -- measure is what is left of x. Assumes nothing.
 use mathlib.Core.Path.{◌≡◌}
 use Prim.Native.Nat.{◌-◌}
-use borrow.Author.Rules.{rules}
 use lib.ListN.{length}
 use Rattle.words.specs.Search as Search
-use Rattle.words.specs.Tables.{border_row, best_row, count_row}
-use Rattle.words.proofs.Tables.{Rows, rows_none, rows_length, rows_inside, rows_filled, rows_more, rows_done, rows_under}
+use Rattle.words.specs.Tables.{best_row, count_row}
+use Rattle.words.proofs.Tables.{Rows}
 use Rattle.words.proofs.Weighs.{heaviest_row}
 use Rattle.tallies.specs.Tallies.{Tallies}
-use Rattle.tallies.proofs.Steps.{first_tallies, still_cover, chain_more}
-use Rattle.enhanced.proofs.Steps.{used_row, best_fits, count_fits, total_small, total_none, total_more, total_done}
+use Rattle.enhanced.proofs.Steps.{used_row}
 use Rattle.enhanced.proofs.rows.Given as goal
 
 abbrev pub invariant-loop-j : goal.invariant-loop-j

@@ -1,5 +1,4 @@
 -- `facts::borders` meets its contract. Assumes nothing.
-use borrow.Author.Rules.{rules}
 use Rattle.facts.proofs.Lines.{borders_put}
 use Rattle.facts.proofs.borders.Goals as goal
 

@@ -1,5 +1,4 @@
 -- `facts::ceiling` meets its contract. Assumes nothing.
-use borrow.Author.Rules.{rules}
 use Rattle.facts.proofs.Lines.{ceiling_put}
 use Rattle.facts.proofs.ceiling.Goals as goal
 

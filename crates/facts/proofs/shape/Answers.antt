@@ -1,5 +1,4 @@
 -- `facts::shape` meets its contract. Assumes nothing.
-use borrow.Author.Rules.{rules}
 use Rattle.facts.proofs.Lines.{shape_put}
 use Rattle.facts.proofs.shape.Goals as goal
 

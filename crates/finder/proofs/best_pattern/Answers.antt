@@ -1,5 +1,4 @@
 -- `finder::best_pattern` meets its contract. Assumes nothing.
-use borrow.Author.Rules.{rules}
 use Rattle.finder.proofs.Patterns.{cut_within, pattern_cut, same_place}
 use Rattle.finder.proofs.best_pattern.Goals as goal
 

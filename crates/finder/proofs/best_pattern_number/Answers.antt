@@ -1,5 +1,4 @@
 -- `finder::best_pattern_number` meets its contract. Assumes nothing.
-use borrow.Author.Rules.{rules}
 use Rattle.finder.proofs.Patterns.{pattern_number}
 use Rattle.finder.proofs.best_pattern_number.Goals as goal
 

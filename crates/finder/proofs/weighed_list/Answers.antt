@@ -1,5 +1,4 @@
 -- `finder::weighed_list` meets its contract. Assumes nothing.
-use borrow.Author.Rules.{rules}
 use Rattle.finder.proofs.Answers.{weighed_refused, prefix_within, prefix_accepted, weighed_done}
 use Rattle.finder.proofs.weighed_list.Goals as goal
 

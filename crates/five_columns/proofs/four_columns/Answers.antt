@@ -6,11 +6,11 @@ use Rattle.five_columns.proofs.four_columns.Goals as goal
 
 pub weighed_beside-requires : goal.weighed_beside-requires
 weighed_beside-requires c = (
-      search (written_holds border_row),
-      search (written_holds cover_row),
-      search rules,
-      search rules,
-      search rules,
-      search rules,
-      search rules,
-    )
+  search (written_holds border_row),
+  search (written_holds cover_row),
+  search rules,
+  search rules,
+  search rules,
+  search rules,
+  search rules,
+)

@@ -1,5 +1,4 @@
 -- `judged::best` meets its contract. Assumes nothing.
-use borrow.Author.Rules.{rules}
 use Rattle.judged.proofs.Steps.{last_best}
 use Rattle.judged.proofs.best.Goals as goal
 

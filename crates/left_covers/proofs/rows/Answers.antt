@@ -1,5 +1,4 @@
 -- `left_covers::rows` meets its contract. Assumes nothing.
-use borrow.Author.Rules.{rules}
 use Rattle.words.specs.Tables.{best_row, count_row}
 use Rattle.words.proofs.Tables.{written_holds, still_room, laid_over}
 use Rattle.repeats.specs.Repeats.{left_cover_row, left_count_row}

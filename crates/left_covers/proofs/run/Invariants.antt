@@ -1,11 +1,10 @@
 -- `left_covers::run` meets its contract. The loop's invariant: both tables have their first r rows written, and `left` is the left cover of the first r
 -- readings. The measure is what is left of x. Assumes nothing.
 use Prim.Native.Nat.{◌-◌}
-use borrow.Author.Rules.{rules}
 use lib.ListN.{length}
-use Rattle.words.proofs.Tables.{Rows, rows_none, rows_length, rows_inside, rows_done}
+use Rattle.words.proofs.Tables.{Rows}
 use Rattle.repeats.specs.Repeats.{left_cover_row, left_count_row}
-use Rattle.left_covers.proofs.Steps.{Left, left_start, len_small, count_small, next_left, cover_more, count_more}
+use Rattle.left_covers.proofs.Steps.{Left}
 use Rattle.left_covers.proofs.run.Given as goal
 
 abbrev pub invariant-loop-r : goal.invariant-loop-r

@@ -1,5 +1,4 @@
 -- `left_covers::settle` meets its contract. Assumes nothing.
-use borrow.Author.Rules.{rules}
 use Rattle.left_covers.proofs.Steps.{row_stands, row_wins, left_wins}
 use Rattle.left_covers.proofs.settle.Goals as goal
 

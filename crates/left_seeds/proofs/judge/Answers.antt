@@ -1,16 +1,9 @@
 -- `left_seeds::judge` meets its contract. The loop's invariant: below j the rows of both tables are written and those of `chain` are the
 -- chain's, from j on those of `chain` are still covers; last and held have the tallies of the first j prefixes, and s is how the first j readings stand. The measure is what is left of x. Assumes nothing.
-use mathlib.Core.Path.{◌≡◌}
-use Prim.Native.Nat.{◌-◌, ◌≤◌}
 use borrow.Author.Rules.{rules}
-use lib.ListN.{length}
-use Rattle.words.specs.Refusals.{longest}
-use Rattle.words.proofs.Tables.{Rows, rows_none, rows_length, rows_inside, rows_filled, rows_more, rows_done}
-use Rattle.words.proofs.Weighs.{heaviest_row}
-use Rattle.tallies.specs.Tallies.{Tallies}
+use Rattle.words.proofs.Tables.{rows_none, rows_length, rows_inside, rows_filled, rows_more, rows_done}
 use Rattle.tallies.proofs.Steps.{first_tallies, still_cover, chain_more}
 use Rattle.repeats.specs.Repeats.{left_seed_row, seed_count_row}
-use Rattle.standings.specs.Standings.{Stands}
 use Rattle.standings.proofs.Steps.{stands_none}
 use Rattle.left_seeds.proofs.Steps.{seed_row, count_row_lem, seed_fits, reach_fits}
 use Rattle.left_seeds.proofs.judge.Goals as goal

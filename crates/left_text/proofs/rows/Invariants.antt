@@ -1,10 +1,8 @@
 -- `left_text::rows` meets its contract. The loop's invariant is `Rowed`, its measure what is left of x. Assumes nothing.
-use borrow.Author.Rules.{rules}
 use Prim.Native.Nat.{◌-◌}
 use lib.ListN.{length}
-use Rattle.reporting.proofs.Rowing.{Rowed, rowed_none}
+use Rattle.reporting.proofs.Rowing.{Rowed}
 use Rattle.left_text.specs.Lefts.{four}
-use Rattle.left_text.proofs.Rowing.{rowed_row, rowed_more, rowed_said}
 use Rattle.left_text.proofs.rows.Given as goal
 
 abbrev pub invariant-loop-r : goal.invariant-loop-r

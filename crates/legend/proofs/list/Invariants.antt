@@ -1,7 +1,6 @@
 -- `legend::list` meets its contract. The buffer keeps its length; the loop's measure is the entries left. Assumes nothing.
 use mathlib.Core.Path.{◌≡◌}
 use Prim.Native.Nat.{◌-◌}
-use borrow.Author.Rules.{rules}
 use lib.ListN.{length}
 use Rattle.legend.proofs.list.Given as goal
 

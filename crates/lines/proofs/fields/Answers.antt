@@ -1,8 +1,6 @@
 -- `lines::fields` meets its contract. The loop's invariant is `Listed`, its measure what is left of t. Assumes nothing.
-use Prim.Native.Nat.{◌-◌}
 use borrow.Author.Rules.{rules}
-use lib.ListN.{length}
-use Rattle.lines.proofs.Texts.{Listed, listed_none, listed_room, listed_more, listed_all, listed_short}
+use Rattle.lines.proofs.Texts.{listed_none, listed_room, listed_more, listed_all, listed_short}
 use Rattle.lines.proofs.fields.Goals as goal
 
 pub loop-i-init : goal.loop-i-init

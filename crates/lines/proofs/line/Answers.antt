@@ -1,5 +1,4 @@
 -- `lines::line` meets its contract. Assumes nothing.
-use borrow.Author.Rules.{rules}
 use Rattle.lines.proofs.Texts.{line_put}
 use Rattle.lines.proofs.line.Goals as goal
 

@@ -1,8 +1,6 @@
 -- `lines::word` meets its contract. The loop's invariant is `Copied`, its measure what is left of w. Assumes nothing.
-use Prim.Native.Nat.{◌-◌}
 use borrow.Author.Rules.{rules}
-use lib.ListN.{length}
-use Rattle.lines.proofs.Texts.{Copied, copied_none, copied_more, copied_all, copied_whole}
+use Rattle.lines.proofs.Texts.{copied_none, copied_more, copied_all, copied_whole}
 use Rattle.lines.proofs.word.Goals as goal
 
 pub loop-i-init : goal.loop-i-init

@@ -1,8 +1,7 @@
 -- `lines::word` meets its contract. The loop's invariant is `Copied`, its measure what is left of w. Assumes nothing.
 use Prim.Native.Nat.{◌-◌}
-use borrow.Author.Rules.{rules}
 use lib.ListN.{length}
-use Rattle.lines.proofs.Texts.{Copied, copied_none, copied_more, copied_all, copied_whole}
+use Rattle.lines.proofs.Texts.{Copied}
 use Rattle.lines.proofs.word.Given as goal
 
 abbrev pub invariant-loop-i : goal.invariant-loop-i

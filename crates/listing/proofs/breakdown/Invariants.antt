@@ -1,6 +1,5 @@
 -- `listing::breakdown` meets its contract. The loop's invariant is the table's length, its measure the parts left. Assumes nothing.
 use Prim.Native.Nat.{◌-◌}
-use borrow.Author.Rules.{rules}
 use mathlib.Core.Path.{◌≡◌}
 use lib.ListN.{length}
 use Rattle.listing.proofs.breakdown.Given as goal

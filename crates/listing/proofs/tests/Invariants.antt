@@ -1,6 +1,5 @@
 -- `listing::tests` meets its contract. The loop's invariant is the table's length, its measure the tests left. Assumes nothing.
 use Prim.Native.Nat.{◌-◌}
-use borrow.Author.Rules.{rules}
 use mathlib.Core.Path.{◌≡◌}
 use lib.ListN.{length}
 use Rattle.listing.proofs.tests.Given as goal

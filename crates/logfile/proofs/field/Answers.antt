@@ -1,5 +1,4 @@
 -- `logfile::field` meets its contract. Assumes nothing.
-use borrow.Author.Rules.{rules}
 use Rattle.logfile.proofs.Steps.{field_is}
 use Rattle.logfile.proofs.field.Goals as goal
 

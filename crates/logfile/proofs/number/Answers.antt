@@ -1,5 +1,4 @@
 -- `logfile::number` meets its contract. Assumes nothing.
-use borrow.Author.Rules.{rules}
 use Rattle.logfile.proofs.Steps.{no_header, other_version, field_refused, size_fits, wrong_size, symbol_unknown, all_known}
 use Rattle.logfile.proofs.number.Goals as goal
 

@@ -1,8 +1,5 @@
 -- `logfile::unknown` meets its contract. The loop's invariant is `Seen`, its measure what is left of f. Assumes nothing.
-use Prim.Native.Nat.{◌-◌}
-use borrow.Author.Rules.{rules}
-use lib.ListN.{length}
-use Rattle.logfile.proofs.Steps.{Seen, seen_none, seen_unknown, seen_more, seen_all}
+use Rattle.logfile.proofs.Steps.{seen_none, seen_unknown, seen_more, seen_all}
 use Rattle.logfile.proofs.unknown.Goals as goal
 
 pub loop-k-init : goal.loop-k-init

@@ -1,8 +1,7 @@
 -- `logfile::unknown` meets its contract. The loop's invariant is `Seen`, its measure what is left of f. Assumes nothing.
 use Prim.Native.Nat.{◌-◌}
-use borrow.Author.Rules.{rules}
 use lib.ListN.{length}
-use Rattle.logfile.proofs.Steps.{Seen, seen_none, seen_unknown, seen_more, seen_all}
+use Rattle.logfile.proofs.Steps.{Seen}
 use Rattle.logfile.proofs.unknown.Given as goal
 
 abbrev pub invariant-loop-k : goal.invariant-loop-k

@@ -1,8 +1,5 @@
 -- `marks::end_of_run` meets its contract. The loop's invariant is `Run`, its measure the readings left. Assumes nothing.
-use Prim.Native.Nat.{◌-◌}
 use borrow.Author.Rules.{rules}
-use lib.ListN.{length}
-use Rattle.marks.specs.Marks.{Run}
 use Rattle.marks.proofs.Runs.{run_none, run_more}
 use Rattle.marks.proofs.end_of_run.Goals as goal
 

@@ -1,8 +1,6 @@
 -- `marks::last_run` meets its contract. The loop's invariant is `Run`, its measure p. Assumes nothing.
-use borrow.Author.Rules.{rules}
 use lib.ListN.{length}
 use Rattle.marks.specs.Marks.{Run}
-use Rattle.marks.proofs.Runs.{run_none, run_back, run_left, run_whole}
 use Rattle.marks.proofs.last_run.Given as goal
 
 abbrev pub invariant-loop-p : goal.invariant-loop-p

@@ -1,7 +1,6 @@
 -- `marks::occurs` meets its contract. The loop's invariant is `Agree`, its measure the readings left. Assumes nothing.
-use Prim.Native.Nat.{◌-◌}
 use borrow.Author.Rules.{rules}
-use Rattle.marks.proofs.Agreements.{Agree, agree_none, agree_more, differ, agree_all}
+use Rattle.marks.proofs.Agreements.{agree_none, agree_more, differ, agree_all}
 use Rattle.marks.proofs.occurs.Goals as goal
 
 pub loop-k-init : goal.loop-k-init

@@ -1,6 +1,6 @@
 -- `parts::descend` meets its contract.
 use Rattle.std.proofs.Common.{rules}
-use Rattle.parts.proofs.Steps.{deep_place, deep_falls, deep_next, broken_done, broken_more, level_fits}
+use Rattle.parts.proofs.Steps.{deep_falls, deep_next, broken_done, broken_more}
 use Rattle.parts.proofs.+descend.Goals as goal
 
 pub returns-then-i-eq0 : goal.returns-then-i-eq0

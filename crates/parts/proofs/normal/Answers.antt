@@ -1,5 +1,4 @@
 -- `parts::normal` meets its contract. Assumes nothing.
-use borrow.Author.Rules.{rules}
 use Rattle.parts.proofs.Steps.{border_le, period_some, remainder_fits, quotient_fits, normal_is}
 use Rattle.parts.proofs.normal.Goals as goal
 

@@ -1,5 +1,4 @@
 -- `picturing::picture_of` meets its contract. Assumes nothing.
-use borrow.Author.Rules.{rules}
 use Rattle.logfile.proofs.Files.{file_lent}
 use Rattle.picturing.proofs.picture_of.Goals as goal
 

@@ -1,6 +1,5 @@
 -- `ppm_files::print_bytes` meets its contract. The loop's invariant: i is within the slice. Its measure is what is left of it. Assumes nothing.
 use Prim.Native.Nat.{◌≤◌, ◌-◌}
-use borrow.Author.Rules.{rules}
 use lib.ListN.{length}
 use Rattle.ppm_files.proofs.print_bytes.Given as goal
 

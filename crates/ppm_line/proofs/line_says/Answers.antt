@@ -1,5 +1,4 @@
 -- `ppm_line::line_says` meets its contract. Assumes nothing.
-use borrow.Author.Rules.{rules}
 use Rattle.ppm_line.specs.Lines.{says_after, says, after_digits, after_number, blanks}
 use Rattle.ppm_line.proofs.line_says.Goals as goal
 

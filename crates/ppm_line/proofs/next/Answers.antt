@@ -1,5 +1,4 @@
 -- `ppm_line::next` meets its contract. Assumes nothing.
-use borrow.Author.Rules.{rules}
 use Rattle.ppm_line.specs.Lines.{says_after}
 use Rattle.ppm_line.proofs.next.Goals as goal
 

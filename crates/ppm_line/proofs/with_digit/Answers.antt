@@ -1,6 +1,5 @@
 -- `ppm_line::with_digit` meets its contract. Assumes nothing.
 use native.Mathlib.Omega.{arith}
-use borrow.Author.Rules.{rules}
 use Rattle.ppm_line.specs.Lines.{longer}
 use Rattle.ppm_line.proofs.Steps.{digit_from}
 use Rattle.ppm_line.proofs.with_digit.Goals as goal

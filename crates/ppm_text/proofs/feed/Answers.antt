@@ -1,8 +1,5 @@
 -- `ppm_text::feed` meets its contract. The loop's invariant: the first i bytes are taken. Its measure is the bytes left. Assumes nothing.
-use Prim.Native.Nat.{◌-◌}
 use borrow.Author.Rules.{rules}
-use lib.ListN.{length, take}
-use Rattle.ppm_text.specs.States.{Takes}
 use Rattle.ppm_text.proofs.Readings.{none_taken, more_taken, all_taken}
 use Rattle.ppm_text.proofs.feed.Goals as goal
 

@@ -1,5 +1,4 @@
 -- `ppm_text::new_line` meets its contract. Assumes nothing.
-use borrow.Author.Rules.{rules}
 use Rattle.ppm_text.proofs.new_line.Goals as goal
 
 pub returns : goal.returns

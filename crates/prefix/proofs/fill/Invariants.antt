@@ -1,11 +1,9 @@
 -- `prefix::fill` meets its contract. The loop's invariant is `Rows` and `Stretch`, its measure what is left of x. Assumes nothing.
 use Prim.Native.Nat.{◌-◌, ◌<◌}
-use borrow.Author.Rules.{rules}
 use lib.ListN.{length}
 use Rattle.words.specs.Tables.{prefix_row}
-use Rattle.words.proofs.Tables.{Rows, rows_length, rows_inside, rows_filled, rows_more, rows_done}
+use Rattle.words.proofs.Tables.{Rows}
 use Rattle.prefix.specs.Stretch.{Stretch}
-use Rattle.prefix.proofs.Steps.{fill_start, first_stretch, row_fits}
 use Rattle.prefix.proofs.fill.Given as goal
 
 abbrev pub invariant-loop-r : goal.invariant-loop-r

@@ -1,7 +1,5 @@
 -- `prefix::rows` meets its contract. Assumes nothing.
-use mathlib.Core.Path.{◌∙◌}
 use borrow.Author.Rules.{rules}
-use lib.ListN.{length-set}
 use Rattle.words.specs.Tables.{prefix_row}
 use Rattle.words.proofs.Tables.{written_empty, written_first, first_room, first_stored}
 use Rattle.prefix.proofs.rows.Goals as goal

@@ -1,10 +1,8 @@
 -- `prefix::scan` meets its contract. The loop's invariant: the first k readings occur after r. The measure is what is left of x. Assumes nothing.
 use Prim.Native.Nat.{◌-◌}
-use borrow.Author.Rules.{rules}
 use lib.Dec.{eqb}
 use lib.ListN.{length}
 use Rattle.words.proofs.Prefixes.{Reaches}
-use Rattle.prefix.proofs.Steps.{scan_more, scan_stop, scan_end}
 use Rattle.prefix.proofs.scan.Given as goal
 
 abbrev pub invariant-loop-k : goal.invariant-loop-k

@@ -1,5 +1,4 @@
 -- `refusals::best` meets its contract. Assumes nothing.
-use borrow.Author.Rules.{rules}
 use Rattle.refusals.proofs.Steps.{best_log, best_none, best_some}
 use Rattle.refusals.proofs.best.Goals as goal
 

@@ -1,5 +1,4 @@
 -- `refusals::cover_test` meets its contract. Assumes nothing.
-use borrow.Author.Rules.{rules}
 use Rattle.refusals.proofs.Steps.{cover_refused, cover_zero, cover_past, cover_fits}
 use Rattle.refusals.proofs.cover_test.Goals as goal
 

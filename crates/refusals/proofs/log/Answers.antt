@@ -1,5 +1,4 @@
 -- `refusals::log` meets its contract. Assumes nothing.
-use borrow.Author.Rules.{rules}
 use Rattle.refusals.proofs.Steps.{log_empty, log_long, log_fits}
 use Rattle.refusals.proofs.log.Goals as goal
 

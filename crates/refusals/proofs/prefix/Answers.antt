@@ -1,5 +1,4 @@
 -- `refusals::prefix` meets its contract. Assumes nothing.
-use borrow.Author.Rules.{rules}
 use Rattle.refusals.proofs.Steps.{prefix_log, prefix_zero, prefix_past, prefix_fits}
 use Rattle.refusals.proofs.prefix.Goals as goal
 

@@ -1,5 +1,4 @@
 -- `refusals::table` meets its contract. Assumes nothing.
-use borrow.Author.Rules.{rules}
 use Rattle.refusals.proofs.Steps.{table_log, table_short, table_room}
 use Rattle.refusals.proofs.table.Goals as goal
 

@@ -1,5 +1,4 @@
 -- `refusals::two_tables` meets its contract. Assumes nothing.
-use borrow.Author.Rules.{rules}
 use Rattle.refusals.proofs.Steps.{table_less}
 use Rattle.refusals.proofs.two_tables.Goals as goal
 

@@ -1,5 +1,4 @@
 -- `refusals::window` meets its contract. Assumes nothing.
-use borrow.Author.Rules.{rules}
 use Rattle.refusals.proofs.Steps.{window_less}
 use Rattle.refusals.proofs.window.Goals as goal
 

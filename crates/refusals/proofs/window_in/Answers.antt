@@ -1,5 +1,4 @@
 -- `refusals::window_in` meets its contract. Assumes nothing.
-use borrow.Author.Rules.{rules}
 use Rattle.refusals.proofs.Steps.{window_log, window_none, window_wide, window_late, window_short, window_fits}
 use Rattle.refusals.proofs.window_in.Goals as goal
 

@@ -1,5 +1,5 @@
 -- `second::border` is safe and ends. The measure is the length to try next. Assumes nothing.
-use Rattle.std.proofs.Common.{◌≤◌, rules}
+use Rattle.std.proofs.Common.{◌≤◌}
 use Rattle.second.proofs.border.Given as goal
 
 abbrev pub invariant-loop-m : goal.invariant-loop-m

@@ -1,5 +1,5 @@
 -- `second::ceiling` is safe and ends. The loop's invariant: no more are counted than are passed. Assumes nothing.
-use Rattle.std.proofs.Common.{◌≡◌, ◌-◌, ◌≤◌, length, rules}
+use Rattle.std.proofs.Common.{◌≡◌, ◌-◌, ◌≤◌, length}
 use Rattle.second.proofs.ceiling.Given as goal
 
 abbrev pub invariant-loop-p : goal.invariant-loop-p

@@ -1,5 +1,5 @@
 -- `second::cover` is safe and ends. Assumes nothing.
-use Rattle.std.proofs.Common.{◌≤◌, rules}
+use Rattle.std.proofs.Common.{◌≤◌}
 use Rattle.second.proofs.cover.Given as goal
 
 abbrev pub invariant-loop-q : goal.invariant-loop-q

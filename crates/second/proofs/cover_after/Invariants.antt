@@ -1,5 +1,5 @@
 -- `second::cover_after` is safe and ends. Assumes nothing.
-use Rattle.std.proofs.Common.{◌-◌, rules}
+use Rattle.std.proofs.Common.{◌-◌}
 use Rattle.second.proofs.cover_after.Given as goal
 
 abbrev pub invariant-loop-p : goal.invariant-loop-p

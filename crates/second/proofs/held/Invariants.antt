@@ -1,5 +1,5 @@
 -- `second::held` is safe and ends. The loop's invariant is its end, its measure the readings left. Assumes nothing.
-use Rattle.std.proofs.Common.{◌≡◌, ◌-◌, length, rules}
+use Rattle.std.proofs.Common.{◌≡◌, ◌-◌, length}
 use Rattle.second.proofs.held.Given as goal
 
 abbrev pub invariant-loop-p : goal.invariant-loop-p

@@ -1,5 +1,5 @@
 -- `second::limit` is safe and ends. The loop's invariant: the exponent is below its power. Assumes nothing.
-use Rattle.std.proofs.Common.{◌-◌, ◌<◌, rules}
+use Rattle.std.proofs.Common.{◌-◌, ◌<◌}
 use Rattle.second.proofs.limit.Given as goal
 
 abbrev pub invariant-loop-power : goal.invariant-loop-power

@@ -1,5 +1,5 @@
 -- `second::mark` is safe and ends. Assumes nothing.
-use Rattle.std.proofs.Common.{◌≡◌, ◌-◌, length, rules}
+use Rattle.std.proofs.Common.{◌≡◌, ◌-◌, length}
 use Rattle.second.proofs.mark.Given as goal
 
 abbrev pub invariant-loop-p : goal.invariant-loop-p

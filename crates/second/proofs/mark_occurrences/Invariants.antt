@@ -1,5 +1,5 @@
 -- `second::mark_occurrences` is safe and ends. Assumes nothing.
-use Rattle.std.proofs.Common.{◌≡◌, ◌-◌, length, rules}
+use Rattle.std.proofs.Common.{◌≡◌, ◌-◌, length}
 use Rattle.second.proofs.mark_occurrences.Given as goal
 
 abbrev pub invariant-loop-j : goal.invariant-loop-j

@@ -1,5 +1,5 @@
 -- `second::part` is safe and ends. Assumes nothing.
-use Rattle.std.proofs.Common.{◌-◌, rules}
+use Rattle.std.proofs.Common.{◌-◌}
 use Rattle.second.proofs.part.Given as goal
 
 abbrev pub invariant-loop-k : goal.invariant-loop-k

@@ -1,5 +1,5 @@
 -- `second::parts_used` is safe and ends. Assumes nothing.
-use Rattle.std.proofs.Common.{◌-◌, rules}
+use Rattle.std.proofs.Common.{◌-◌}
 use Rattle.second.proofs.parts_used.Given as goal
 
 abbrev pub invariant-loop-level : goal.invariant-loop-level

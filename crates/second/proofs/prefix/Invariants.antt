@@ -1,5 +1,5 @@
 -- `second::prefix` is safe and ends. Assumes nothing.
-use Rattle.std.proofs.Common.{◌≤◌, length, rules}
+use Rattle.std.proofs.Common.{◌≤◌, length}
 use Rattle.second.proofs.prefix.Given as goal
 
 abbrev pub invariant-loop-m : goal.invariant-loop-m

@@ -1,5 +1,5 @@
 -- `second::same` is safe and ends. The loop's invariant: both are equally long. Assumes nothing.
-use Rattle.std.proofs.Common.{◌≡◌, ◌-◌, length, rules}
+use Rattle.std.proofs.Common.{◌≡◌, ◌-◌, length}
 use Rattle.second.proofs.same.Given as goal
 
 abbrev pub invariant-loop-k : goal.invariant-loop-k

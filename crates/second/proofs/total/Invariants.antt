@@ -1,5 +1,5 @@
 -- `second::total` is safe and ends. Assumes nothing.
-use Rattle.std.proofs.Common.{◌-◌, length, rules}
+use Rattle.std.proofs.Common.{◌-◌, length}
 use Rattle.second.proofs.total.Given as goal
 
 abbrev pub invariant-loop-i : goal.invariant-loop-i

@@ -1,5 +1,5 @@
 -- `second::weighed_below` is safe and ends. Assumes nothing.
-use Rattle.std.proofs.Common.{◌≤◌, rules}
+use Rattle.std.proofs.Common.{◌≤◌}
 use Rattle.second.proofs.weighed_below.Given as goal
 
 abbrev pub invariant-loop-q : goal.invariant-loop-q

@@ -1,5 +1,5 @@
 -- `second::weighed_used` is safe and ends. The loop's invariant: no more are counted than are passed. Assumes nothing.
-use Rattle.std.proofs.Common.{◌-◌, ◌≤◌, rules}
+use Rattle.std.proofs.Common.{◌-◌, ◌≤◌}
 use Rattle.second.proofs.weighed_used.Given as goal
 
 abbrev pub invariant-loop-q : goal.invariant-loop-q

@@ -1,7 +1,6 @@
 -- `second_left::mark_starts` is safe and ends. Assumes nothing.
 use mathlib.Core.Path.{◌≡◌}
 use Prim.Native.Nat.{◌-◌}
-use borrow.Author.Rules.{rules}
 use lib.ListN.{length}
 use Rattle.second_left.proofs.mark_starts.Given as goal
 

@@ -1,6 +1,5 @@
 -- `second_left::occurs_twice` is safe and ends. The loop's invariant: no end lies before q. Assumes nothing.
 use Prim.Native.Nat.{◌-◌, ◌≤◌}
-use borrow.Author.Rules.{rules}
 use Rattle.second_left.proofs.occurs_twice.Given as goal
 
 abbrev pub invariant-loop-e : goal.invariant-loop-e

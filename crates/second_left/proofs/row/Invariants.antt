@@ -1,6 +1,5 @@
 -- `second_left::row` is safe and ends. Assumes nothing.
 use Prim.Native.Nat.{◌-◌}
-use borrow.Author.Rules.{rules}
 use Rattle.second_left.proofs.row.Given as goal
 
 abbrev pub invariant-loop-q : goal.invariant-loop-q

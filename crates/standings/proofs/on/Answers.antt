@@ -1,5 +1,4 @@
 -- `standings::on` meets its contract. Assumes nothing.
-use borrow.Author.Rules.{rules}
 use Rattle.standings.proofs.Steps.{more_fits, start_small, on_some, on_within, on_sown}
 use Rattle.standings.proofs.on.Goals as goal
 

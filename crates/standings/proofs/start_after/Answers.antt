@@ -1,5 +1,4 @@
 -- `standings::start_after` meets its contract. Assumes nothing.
-use borrow.Author.Rules.{rules}
 use Rattle.standings.proofs.Steps.{after_longer, after_same, after_other}
 use Rattle.standings.proofs.start_after.Goals as goal
 

@@ -1,5 +1,5 @@
 -- `strokes::enclose_runs` meets its contract. The buffer keeps its length; the loop's measure is the readings left. Assumes nothing.
-use Rattle.std.proofs.Common.{◌≡◌, ◌-◌, length, rules}
+use Rattle.std.proofs.Common.{◌≡◌, ◌-◌, length}
 use Rattle.strokes.proofs.enclose_runs.Given as goal
 
 abbrev pub invariant-loop-a : goal.invariant-loop-a

@@ -1,5 +1,5 @@
 -- `strokes::labels` meets its contract. The buffer keeps its length, and the turns, which are the loop's measure, bound the label. Assumes nothing.
-use Rattle.std.proofs.Common.{◌≡◌, ◌-◌, ◌*◌, ◌≤◌, length, rules}
+use Rattle.std.proofs.Common.{◌≡◌, ◌-◌, ◌*◌, ◌≤◌, length}
 use Rattle.strokes.proofs.labels.Given as goal
 
 abbrev pub invariant-loop-i : goal.invariant-loop-i

@@ -1,5 +1,5 @@
 -- `strokes::steps` meets its contract. The buffer keeps its length, and a reading stands before k; the loop's measure is the readings left. Assumes nothing.
-use Rattle.std.proofs.Common.{◌≡◌, ◌-◌, ◌<◌, length, rules}
+use Rattle.std.proofs.Common.{◌≡◌, ◌-◌, ◌<◌, length}
 use Rattle.strokes.proofs.steps.Given as goal
 
 abbrev pub invariant-loop-k : goal.invariant-loop-k

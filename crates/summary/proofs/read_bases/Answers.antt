@@ -1,5 +1,4 @@
 -- `summary::read_bases` meets its contract. Assumes nothing.
-use borrow.Author.Rules.{rules}
 use Rattle.summary.proofs.Reading.{outline_is}
 use Rattle.summary.proofs.read_bases.Goals as goal
 

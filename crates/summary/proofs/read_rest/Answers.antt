@@ -1,5 +1,4 @@
 -- `summary::read_rest` meets its contract. Assumes nothing.
-use borrow.Author.Rules.{rules}
 use Rattle.summary.proofs.Reading.{summary_is}
 use Rattle.summary.proofs.read_rest.Goals as goal
 

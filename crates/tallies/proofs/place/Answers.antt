@@ -1,5 +1,4 @@
 -- `tallies::place` meets its contract. Assumes nothing.
-use borrow.Author.Rules.{rules}
 use Rattle.tallies.proofs.Steps.{covered_round}
 use Rattle.tallies.proofs.place.Goals as goal
 

@@ -1,10 +1,7 @@
 -- `tallies::weigh` meets its contract. The loop's invariant is `Round` and `Way`, and that l and h keep their lengths; its measure is w. Assumes nothing.
-use mathlib.Core.Path.{◌≡◌}
 use borrow.Author.Rules.{rules}
-use lib.ListN.{length}
 use Rattle.tallies.proofs.Tallies.{round_done}
-use Rattle.tallies.specs.Tallies.{Round}
-use Rattle.tallies.proofs.Steps.{Way, first_way, next_falls, next_round, next_way, way_few, way_done}
+use Rattle.tallies.proofs.Steps.{first_way, next_falls, next_round, next_way, way_few, way_done}
 use Rattle.tallies.proofs.weigh.Goals as goal
 
 pub loop-w-init : goal.loop-w-init

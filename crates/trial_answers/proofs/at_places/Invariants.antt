@@ -1,5 +1,5 @@
 -- `trial_answers::at_places` is safe and ends. Assumes nothing.
-use Rattle.std.proofs.Common.{◌-◌, length, rules}
+use Rattle.std.proofs.Common.{◌-◌, length}
 use Rattle.trial_answers.proofs.at_places.Given as goal
 
 abbrev pub invariant-loop-i : goal.invariant-loop-i

@@ -1,5 +1,5 @@
 -- `trial_answers::cover_tests_at` is safe and ends. Assumes nothing.
-use Rattle.std.proofs.Common.{◌-◌, length, rules}
+use Rattle.std.proofs.Common.{◌-◌, length}
 use Rattle.trial_answers.proofs.cover_tests_at.Given as goal
 
 abbrev pub invariant-loop-q : goal.invariant-loop-q

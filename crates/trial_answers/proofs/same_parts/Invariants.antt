@@ -1,5 +1,5 @@
 -- `trial_answers::same_parts` is safe and ends. Assumes nothing.
-use Rattle.std.proofs.Common.{◌-◌, rules}
+use Rattle.std.proofs.Common.{◌-◌}
 use Rattle.trial_answers.proofs.same_parts.Given as goal
 
 abbrev pub invariant-loop-k : goal.invariant-loop-k

@@ -1,5 +1,5 @@
 -- `trial_answers::same_places` is safe and ends. Assumes nothing.
-use Rattle.std.proofs.Common.{◌-◌, rules}
+use Rattle.std.proofs.Common.{◌-◌}
 use Rattle.trial_answers.proofs.same_places.Given as goal
 
 abbrev pub invariant-loop-k : goal.invariant-loop-k

@@ -1,6 +1,5 @@
 -- `trial_ceilings::all` is safe and ends. Assumes nothing.
 use Prim.Native.Nat.{◌-◌}
-use borrow.Author.Rules.{rules}
 use Rattle.trial_ceilings.proofs.all.Given as goal
 
 abbrev pub invariant-loop-n : goal.invariant-loop-n

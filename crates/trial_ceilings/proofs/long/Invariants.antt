@@ -1,6 +1,5 @@
 -- `trial_ceilings::long` is safe and ends. Assumes nothing.
 use Prim.Native.Nat.{◌-◌}
-use borrow.Author.Rules.{rules}
 use Rattle.trial_ceilings.proofs.long.Given as goal
 
 abbrev pub invariant-loop-back : goal.invariant-loop-back

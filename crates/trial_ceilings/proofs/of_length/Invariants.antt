@@ -1,6 +1,5 @@
 -- `trial_ceilings::of_length` is safe and ends. Assumes nothing.
 use Prim.Native.Nat.{◌-◌}
-use borrow.Author.Rules.{rules}
 use Rattle.trial_ceilings.proofs.of_length.Given as goal
 
 abbrev pub invariant-loop-i : goal.invariant-loop-i

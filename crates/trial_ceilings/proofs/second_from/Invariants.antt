@@ -1,6 +1,5 @@
 -- `trial_ceilings::second_from` is safe and ends. Assumes nothing.
 use Prim.Native.Nat.{◌-◌}
-use borrow.Author.Rules.{rules}
 use Rattle.trial_ceilings.proofs.second_from.Given as goal
 
 abbrev pub invariant-loop-j : goal.invariant-loop-j

@@ -1,6 +1,5 @@
 -- `trial_order::all` is safe and ends. Assumes nothing.
 use Prim.Native.Nat.{◌-◌}
-use borrow.Author.Rules.{rules}
 use Rattle.trial_order.proofs.all.Given as goal
 
 abbrev pub invariant-loop-i : goal.invariant-loop-i

@@ -1,6 +1,5 @@
 -- `trial_order::prefix` is safe and ends. Assumes nothing.
 use Prim.Native.Nat.{◌-◌}
-use borrow.Author.Rules.{rules}
 use Rattle.trial_order.proofs.prefix.Given as goal
 
 abbrev pub invariant-loop-r : goal.invariant-loop-r

@@ -1,6 +1,5 @@
 -- `trial_order::with_cover` is safe and ends. Assumes nothing.
 use Prim.Native.Nat.{◌-◌}
-use borrow.Author.Rules.{rules}
 use Rattle.trial_order.proofs.with_cover.Given as goal
 
 abbrev pub invariant-loop-q : goal.invariant-loop-q

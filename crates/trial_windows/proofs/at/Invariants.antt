@@ -1,5 +1,5 @@
 -- `trial_windows::at` is safe and ends. Assumes nothing.
-use Rattle.std.proofs.Common.{◌-◌, rules}
+use Rattle.std.proofs.Common.{◌-◌}
 use Rattle.trial_windows.proofs.at.Given as goal
 
 abbrev pub invariant-loop-which : goal.invariant-loop-which

@@ -1,6 +1,5 @@
 -- `weighing::exponent` meets its contract. Assumes nothing.
 use native.Mathlib.Omega.{arith}
-use borrow.Author.Rules.{rules}
 use Rattle.weighing.proofs.Steps.{zeros_most, exponent_limit}
 use Rattle.weighing.proofs.exponent.Goals as goal
 

@@ -1,6 +1,6 @@
 -- `weighing::heaviest` meets its contract. The loop's invariant is `Down`, its measure q. Assumes nothing.
 use borrow.Author.Rules.{rules}
-use Rattle.weighing.proofs.Steps.{Down, down_start, down_inside, down_empty, down_cover, down_bare, down_falls, down_next}
+use Rattle.weighing.proofs.Steps.{down_start, down_inside, down_empty, down_cover, down_bare, down_falls, down_next}
 use Rattle.weighing.proofs.heaviest.Goals as goal
 
 pub loop-i-init : goal.loop-i-init

@@ -1,6 +1,5 @@
 -- `weighing::list` meets its contract. The loop's invariant is `Listing`, its measure w. Assumes nothing.
-use borrow.Author.Rules.{rules}
-use Rattle.weighing.proofs.Steps.{Listing, listing_start, listing_room, listing_falls, listing_next, listing_done}
+use Rattle.weighing.proofs.Steps.{Listing}
 use Rattle.weighing.proofs.list.Given as goal
 
 abbrev pub invariant-loop-w : goal.invariant-loop-w

@@ -1,5 +1,4 @@
 -- `wording::band` meets its contract. Assumes nothing.
-use borrow.Author.Rules.{rules}
 use Rattle.wording.proofs.Steps.{band_told}
 use Rattle.wording.proofs.band.Goals as goal
 

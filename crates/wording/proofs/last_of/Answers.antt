@@ -1,5 +1,4 @@
 -- `wording::last_of` meets its contract. Assumes nothing.
-use borrow.Author.Rules.{rules}
 use Rattle.pen.proofs.Meaning.{said_number}
 use Rattle.wording.proofs.Steps.{pick_first, pick_second, said_bare}
 use Rattle.wording.proofs.last_of.Goals as goal

@@ -1,5 +1,4 @@
 -- `wording::readings` meets its contract. Assumes nothing.
-use borrow.Author.Rules.{rules}
 use Rattle.pen.proofs.Meaning.{said_piece}
 use Rattle.wording.proofs.Steps.{pick_first, pick_second}
 use Rattle.wording.proofs.readings.Goals as goal

@@ -1,5 +1,4 @@
 -- `wording::standing` meets its contract. Assumes nothing.
-use borrow.Author.Rules.{rules}
 use Rattle.pen.proofs.Meaning.{said_number, said_said}
 use Rattle.wording.proofs.Steps.{pick_first, pick_second}
 use Rattle.wording.proofs.standing.Goals as goal

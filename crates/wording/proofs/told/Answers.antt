@@ -1,5 +1,4 @@
 -- `wording::told` meets its contract. Assumes nothing.
-use borrow.Author.Rules.{rules}
 use Rattle.pen.proofs.Meaning.{said_piece, said_number, said_said}
 use Rattle.wording.proofs.Steps.{pick_first, pick_second}
 use Rattle.wording.proofs.told.Goals as goal

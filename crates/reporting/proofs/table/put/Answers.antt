@@ -6,14 +6,14 @@ use Rattle.reporting.proofs.table.put.Goals as goal
 
 pub rows-requires : goal.rows-requires
 rows-requires c = (
-      record {
-        most = search rules;
-        borders = search (work_holds border_row);
-        prefixes = search (work_holds prefix_row);
-        covers = search (work_holds cover_row);
-        bests = search (work_holds best_row);
-        counts = search (work_holds count_row);
-        room = search rules;
-      },
-      search rules,
-    )
+  record {
+    most = search rules;
+    borders = search (work_holds border_row);
+    prefixes = search (work_holds prefix_row);
+    covers = search (work_holds cover_row);
+    bests = search (work_holds best_row);
+    counts = search (work_holds count_row);
+    room = search rules;
+  },
+  search rules,
+)

@@ -1,9 +1,6 @@
 -- `reporting::table::rows` meets its contract. The loop's invariant is `Rowed`, its measure what is left of x. Assumes nothing.
 use borrow.Author.Rules.{rules}
-use Prim.Native.Nat.{◌-◌}
-use lib.ListN.{length}
-use Rattle.reporting.specs.Texts.{five}
-use Rattle.reporting.proofs.Rowing.{Rowed, rowed_none, rowed_row, rowed_more, rowed_said}
+use Rattle.reporting.proofs.Rowing.{rowed_none, rowed_row, rowed_more, rowed_said}
 use Rattle.reporting.proofs.table.rows.Goals as goal
 
 pub loop-r-init : goal.loop-r-init

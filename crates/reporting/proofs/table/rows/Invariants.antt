@@ -1,9 +1,8 @@
 -- `reporting::table::rows` meets its contract. The loop's invariant is `Rowed`, its measure what is left of x. Assumes nothing.
-use borrow.Author.Rules.{rules}
 use Prim.Native.Nat.{◌-◌}
 use lib.ListN.{length}
 use Rattle.reporting.specs.Texts.{five}
-use Rattle.reporting.proofs.Rowing.{Rowed, rowed_none, rowed_row, rowed_more, rowed_said}
+use Rattle.reporting.proofs.Rowing.{Rowed}
 use Rattle.reporting.proofs.table.rows.Given as goal
 
 abbrev pub invariant-loop-r : goal.invariant-loop-r

@@ -1,7 +1,6 @@
 -- `second_no::plant::all_known` is safe and ends. Assumes nothing.
 use mathlib.Core.Path.{◌≡◌}
 use Prim.Native.Nat.{◌-◌}
-use borrow.Author.Rules.{rules}
 use lib.ListN.{length}
 use Rattle.second_no.proofs.plant.all_known.Given as goal
 

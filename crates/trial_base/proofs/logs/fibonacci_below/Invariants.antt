@@ -1,6 +1,5 @@
 -- `trial_base::logs::fibonacci_below` is safe and ends. Assumes nothing.
 use Prim.Native.Nat.{◌-◌}
-use borrow.Author.Rules.{rules}
 use Rattle.trial_base.proofs.logs.fibonacci_below.Given as goal
 
 abbrev pub invariant-loop : goal.invariant-loop

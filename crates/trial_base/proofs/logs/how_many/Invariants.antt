@@ -1,6 +1,5 @@
 -- `trial_base::logs::how_many` is safe and ends. Assumes nothing.
 use Prim.Native.Nat.{◌-◌}
-use borrow.Author.Rules.{rules}
 use Rattle.trial_base.proofs.logs.how_many.Given as goal
 
 abbrev pub invariant-loop : goal.invariant-loop

@@ -1,6 +1,5 @@
 -- `trial_base::tally::readings` is safe and ends. Assumes nothing.
 use Prim.Native.Nat.{◌-◌}
-use borrow.Author.Rules.{rules}
 use lib.ListN.{length}
 use Rattle.trial_base.proofs.tally.readings.Given as goal
 

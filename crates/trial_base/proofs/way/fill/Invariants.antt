@@ -1,7 +1,6 @@
 -- `trial_base::way::fill` is safe and ends. Assumes nothing.
 use mathlib.Core.Path.{◌≡◌}
 use Prim.Native.Nat.{◌-◌}
-use borrow.Author.Rules.{rules}
 use lib.ListN.{length}
 use Rattle.trial_base.proofs.way.fill.Given as goal
 

@@ -1,5 +1,5 @@
 -- `trial_runs::small::of_lengths` is safe and ends. Assumes nothing.
-use Rattle.std.proofs.Common.{◌-◌, rules}
+use Rattle.std.proofs.Common.{◌-◌}
 use Rattle.trial_runs.proofs.small.of_lengths.Given as goal
 
 abbrev pub invariant-loop-n : goal.invariant-loop-n

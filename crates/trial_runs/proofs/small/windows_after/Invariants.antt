@@ -1,5 +1,5 @@
 -- `trial_runs::small::windows_after` is safe and ends. Assumes nothing.
-use Rattle.std.proofs.Common.{◌-◌, rules}
+use Rattle.std.proofs.Common.{◌-◌}
 use Rattle.trial_runs.proofs.small.windows_after.Given as goal
 
 abbrev pub invariant-loop-m : goal.invariant-loop-m

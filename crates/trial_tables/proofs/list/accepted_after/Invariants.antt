@@ -1,5 +1,5 @@
 -- `trial_tables::list::accepted_after` is safe and ends. Assumes nothing.
-use Rattle.std.proofs.Common.{◌-◌, length, rules}
+use Rattle.std.proofs.Common.{◌-◌, length}
 use Rattle.trial_tables.proofs.list.accepted_after.Given as goal
 
 abbrev pub invariant-loop-p : goal.invariant-loop-p

@@ -1,5 +1,5 @@
 -- `trial_tables::list::compare_rows` is safe and ends. Assumes nothing.
-use Rattle.std.proofs.Common.{◌≡◌, ◌-◌, length, rules}
+use Rattle.std.proofs.Common.{◌≡◌, ◌-◌, length}
 use Rattle.trial_tables.proofs.list.compare_rows.Given as goal
 
 abbrev pub invariant-loop-r : goal.invariant-loop-r

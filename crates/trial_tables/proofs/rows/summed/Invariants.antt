@@ -1,5 +1,5 @@
 -- `trial_tables::rows::summed` is safe and ends. Assumes nothing.
-use Rattle.std.proofs.Common.{◌-◌, length, rules}
+use Rattle.std.proofs.Common.{◌-◌, length}
 use Rattle.trial_tables.proofs.rows.summed.Given as goal
 
 abbrev pub invariant-loop-i : goal.invariant-loop-i
