@@ -61,6 +61,9 @@ module _ (x : List ℕ) (r : Result ℕ Refusal) (e : pattern_of r ≡ A.pattern
   pub pattern_no : number r ≡ A.best_pattern_no x
   pattern_no = number_told r ∙ pattern_number x e
 
+  pub part_length : result_unwrap_or r 0 ≡ length (A.best_pattern_part x)
+  part_length = length_told r ∙ pattern_length x e
+
   -- `best_pattern`: the part, as the code cuts it
   pub pattern_cut : take (result_unwrap_or r 0) x ≡ A.best_pattern_part x
   pattern_cut = rw (length_told r) (pattern_part x e)
