@@ -1,13 +1,5 @@
 -- What an accepted call hands to floor 2: a log that is judged, tables with room, and the first readings of a log as a log of their own. Assumes nothing.
-use mathlib.Core.Path.{◌≡◌, refl, sym, ap, ◌∙◌}
-use mathlib.Core.List.{List, [], ◌∷◌}
-use Prim.Native.Nat.{ℕ, ◌+◌, ◌≤◌, ◌<◌}
-use native.Mathlib.Omega.{arith}
-use lib.Dec.{eqb}
-use lib.ListN.{length, take}
-use lib.Seq.{length-take-le}
-use mir.Syntax.{w16}
-use mir.Val.{Fits}
+use Rattle.std.proofs.Common.{◌≡◌, refl, sym, ap, ◌∙◌, List, [], ◌∷◌, ℕ, ◌+◌, ◌≤◌, ◌<◌, arith, eqb, length, take, length-take-le, w16, Fits}
 use Rattle.words.specs.Words as W
 use Rattle.words.specs.Refusals.{longest, table_no, log_no, prefix_no, cover_test_no, best_no, window_no}
 use Rattle.words.specs.Answers as A

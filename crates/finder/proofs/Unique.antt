@@ -1,9 +1,5 @@
 -- Any two outcomes that a call's contract allows are equal: each contract is an equation with a definition, which gives the whole outcome. Assumes nothing.
-use mathlib.Core.Bool.{Bool, true, false, cond}
-use mathlib.Core.Path.{◌≡◌, refl, sym, ap}
-use mathlib.Core.List.{List, []}
-use Prim.Native.Nat.{ℕ}
-use Rattle.std.specs.Prelude.{Result, Ok, Err, IfOk}
+use Rattle.std.proofs.Common.{Bool, true, false, cond, ◌≡◌, refl, sym, ap, List, [], ℕ, Result, Ok, Err, IfOk}
 use Rattle.words.specs.declared.Part.{Part}
 use Rattle.words.specs.declared.Written.{Written}
 use Rattle.words.specs.declared.Weighing.{Weighing}

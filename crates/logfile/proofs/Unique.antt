@@ -1,9 +1,5 @@
 -- Any two outcomes that a call's contract allows are equal: each contract gives the whole outcome as an equation. Assumes nothing.
-use mathlib.Core.Path.{◌≡◌, ap}
-use mathlib.Core.List.{List}
-use Prim.Native.Nat.{ℕ}
-use Rattle.std.specs.Prelude.{Result, Ok, Err, IfOk}
-use denote.Bor.{Bor}
+use Rattle.std.proofs.Common.{◌≡◌, ap, List, ℕ, Result, Ok, Err, IfOk, Bor}
 use Rattle.words.specs.PlantFile.{file_no, symbols}
 use Rattle.words.proofs.Refusals.{unique}
 use Rattle.refusals.specs.declared.Refusal.{Refusal}

@@ -1,9 +1,6 @@
 -- What the order is claimed of is what the calls answer: their contracts, as the checker reads them off the code. Assumes nothing.
-use mathlib.Core.Path.{◌≡◌}
-use mathlib.Core.List.{[], ◌∷◌}
-use Prim.Native.Nat.{ℕ}
+use Rattle.std.proofs.Common.{◌≡◌, [], ◌∷◌, ℕ, Bool, true, false, Result, Ok, Err, refl}
 use contract.Lifetimes.{Lfts}
-use Rattle.std.specs.Prelude.{Bool, true, false, Result, Ok, Err, refl}
 use Rattle.words.specs.declared.CoverTest.TheVariants.{Yes}
 use Rattle.words.specs.Answers.{cover_test_answer, cover_list_outcome}
 use Rattle.refusals.specs.declared.Refusal.{Refusal}
