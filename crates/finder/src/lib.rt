@@ -12,7 +12,7 @@ ghost use Rattle.finder.specs.Told.{written_of, weighing_of, listed_of, normal_o
 
 use refusals::Refusal;
 
-// ---- tables
+// ---- tables: refuse, write, accept. One function that took the writer would have to state what each writer asks and gives, and be no shorter.
 
 // Writes the border table of x into the first rows of t.
 pub fn border_table(x: &[u8], t: &mut [u16]) -> Result<(), Refusal>
