@@ -1,25 +1,21 @@
 -- The symbols that the code looks through are those that the document does. Assumes nothing.
-use Rattle.std.proofs.Common.{◌≡◌, ℕ, zero, suc, ◌+◌, ◌-◌, Bool, ◌||◌, ltb, List, [], ◌∷◌, length, get_or, take, drop, arith, refl, sym, ap, ◌∙◌}
+use Rattle.std.proofs.Common.{◌≡◌, ℕ, zero, suc, ◌+◌, ◌-◌, Bool, ◌||◌, ltb, List, [], ◌∷◌, length, get_or, take, drop, get_or-drop, length-drop, take_all, arith, refl, sym, ap, ◌∙◌}
 use Rattle.std.specs.List.{list_any}
-use Rattle.std.proofs.lemmas.List.{get_or-drop, length-drop}
-use Rattle.std.proofs.Math.Seq.{take_all}
 use Rattle.words.specs.Search.{any}
 use Rattle.words.specs.PlantFile.{ceiling_symbol, field_of}
 use Rattle.words.proofs.Tests.{by_test}
 
-module _ (p : ℕ → Bool) where
-  -- the first number apart
-  first : (q : ℕ → Bool) (n : ℕ) → any q (suc n) ≡ q 0 || any (λ k. q (suc k)) n
-  unfolding any
-  first q zero = by_test (q 0) (λ t. simp t) (λ t. simp t)
-  first q (suc n) = by_test (q 0)
-      (λ t. rw (first q n, t) refl)
-      (λ t. rw (first q n, t) refl)
+-- the first number apart
+first : (q : ℕ → Bool) (n : ℕ) → any q (suc n) ≡ q 0 || any (λ k. q (suc k)) n
+unfolding any
+first q zero = by_test (q 0) (λ t. simp t) (λ t. simp t)
+first q (suc n) = by_test (q 0) (λ t. rw (first q n, t)) (λ t. rw (first q n, t))
 
-  along : (xs : List ℕ) (g : ℕ → ℕ) → ((k : ℕ) → g k ≡ get_or xs k 0) → any (λ k. p (g k)) (length xs) ≡ list_any p xs
-  unfolding any
-  along [] g e = refl
-  along (x ∷ xs) g e = first (λ k. p (g k)) (length xs) ∙ rw (e 0, along xs (λ k. g (suc k)) (λ k. e (suc k))) refl
+-- the entries of a list, however they are numbered
+along : (p : ℕ → Bool) (xs : List ℕ) (g : ℕ → ℕ) → ((k : ℕ) → g k ≡ get_or xs k 0) → any (λ k. p (g k)) (length xs) ≡ list_any p xs
+unfolding any
+along p [] g e = refl
+along p (x ∷ xs) g e = first (λ k. p (g k)) (length xs) ∙ rw (e 0, along p xs (λ k. g (suc k)) (λ k. e (suc k)))
 
 module _ (f : List ℕ) where
   -- as the code cuts the symbols
