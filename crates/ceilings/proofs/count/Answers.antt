@@ -1,16 +1,8 @@
--- `ceilings::count` meets its contract. The loop's invariant is `Counted`, its measure what is left of x. Assumes nothing.
-use borrow.Author.Rules.{rules}
-use Rattle.ceilings.proofs.Steps.{counted_none, counted_fits, counted_more, counted_done}
+-- `ceilings::count` meets its contract. Assumes nothing.
+use Rattle.std.proofs.Common.{◌≡◌, ◌∙◌, rules, count_by, ◌==◌}
+use Rattle.words.specs.PlantFile.{ceiling_symbol}
+use Rattle.ceilings.proofs.Steps.{ceiling_counted}
 use Rattle.ceilings.proofs.count.Goals as goal
 
-pub loop-p-init : goal.loop-p-init
-loop-p-init c = search counted_none
-
-pub one_more-count-requires : goal.one_more-count-requires
-one_more-count-requires c = search counted_fits
-
-pub loop-p-preserved : goal.loop-p-preserved
-loop-p-preserved c = search (rules, counted_more)
-
 pub returns : goal.returns
-returns c = search counted_done
+returns c = let e : c.count.result ≡ count_by (λ s. s == ceiling_symbol) c.args.x.now = search rules in e ∙ ceiling_counted _
