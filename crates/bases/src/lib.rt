@@ -12,11 +12,8 @@ fn copy(x: &[u8], from: &[u16], to: &mut [u16])
     requires { (length x.now ≤ length from.now) × Room x.now to.old }
     ensures { to.new ≡ written (copy_row from.now x.now) (length x.now) to.old }
 {
-    let mut r = 0;
-    while r < x.len() {
-        to[r] = from[r];
-        r += 1;
-    }
+    let n = x.len();
+    to[..n].copy_from_slice(&from[..n]);
 }
 
 // The border table of x, then its cover table, with two arrays lent for the cover table's tree.

@@ -14,9 +14,6 @@ pub record Swept (x : List ℕ) (q s end : ℕ) : Type 0 where
   pub each : (p : ℕ) → p < end → Inside eqb x end q p
   pub last : (t : ℕ) → t < s → Occurs eqb x q t → t + q ≤ end
 
-pub swept_none : (x : List ℕ) (q : ℕ) → 0 < q → q ≤ length x → Swept x q 0 0
-swept_none x q h l = record { done = omega arith; bound = omega arith; each = λ p u. absurd (omega arith); last = λ t u. absurd (omega arith) }
-
 module _ {x : List ℕ} {q s end : ℕ} (w : Swept x q s end) (some : 0 < q) where
   -- the position after `end` readings lies in no occurrence that starts before s, and none that starts later begins before it
   gap : (e : ℕ) → end < e → (t : ℕ) → t ≤ end → t < s → Occurs eqb x q t → end < t + q → ⊥
