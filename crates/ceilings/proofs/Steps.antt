@@ -21,9 +21,9 @@ module _ (x : List ℕ) where
       (λ t. count_by_more_yes (λ s. s == ceiling_symbol) x n 0 l t ∙ ap (λ (k : ℕ). k + 1) ih ∙ sym (how_many_hit (C.at_ceiling x) n t))
       (λ t. count_by_more_no (λ s. s == ceiling_symbol) x n 0 l t ∙ ih ∙ sym (how_many_miss (C.at_ceiling x) n t)))
 
-  pub ceiling_counted : count_by (λ s. s == ceiling_symbol) x ≡ C.ceiling x
+  pub ceiling_counted : (n : ℕ) → length x ≤ n → count_by (λ s. s == ceiling_symbol) (take n x) ≡ C.ceiling x
   unfolding C.ceiling
-  ceiling_counted = ap (count_by (λ s. s == ceiling_symbol)) (sym (take_all (length x) x (omega arith))) ∙ counted (length x) (omega arith)
+  ceiling_counted n h = ap (count_by (λ s. s == ceiling_symbol)) (take_all n x h ∙ sym (take_all (length x) x (omega arith))) ∙ counted (length x) (omega arith)
 
   pub stuck_each : {b : Bool} → IsTrue b ↔ EachIndex x (λ k. slice_index x k ≡ ceiling_symbol) → b ≡ C.stuck x
   unfolding C.stuck

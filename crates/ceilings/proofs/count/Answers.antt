@@ -1,8 +1,7 @@
--- `ceilings::count` meets its contract. Assumes nothing.
-use Rattle.std.proofs.Common.{◌≡◌, ◌∙◌, rules, count_by, ◌==◌}
-use Rattle.words.specs.PlantFile.{ceiling_symbol}
+-- `ceilings::count` meets its contract. The loop's invariant: the readings so far are counted. Assumes nothing.
+use Rattle.std.proofs.Common.{◌∙◌}
 use Rattle.ceilings.proofs.Steps.{ceiling_counted}
 use Rattle.ceilings.proofs.count.Goals as goal
 
 pub returns : goal.returns
-returns c = let e : c.count.result ≡ count_by (λ s. s == ceiling_symbol) c.args.x.now = search rules in e ∙ ceiling_counted _
+returns c = c.loop-symbol.invariant ∙ ceiling_counted _ _ c.loop-symbol-test.false
