@@ -1,4 +1,6 @@
 // Floor 2: the two tables that the others are made from, in arrays that are lent.
+// A log and its tables go on as slices, with `Holds` for what a table has, and not as a struct: the normal form and the breakdown read the border table alone,
+// the list of covers the cover table alone, the weighed list both, and the enhanced table is laid over them, so it would be a type for each.
 #![tactic(auto)]
 
 ghost use Rattle.std.specs.Prelude.{◌≡◌, ◌≤◌, length};

@@ -1,4 +1,5 @@
 // Floor 2: the cover table of a log, on line, by the tree of longest proper covers (specs/Tree).
+// up and kids are two slices, and no struct or array of pairs: they are lent, and the enhanced table has its last ends and its counts in them afterwards.
 #![tactic(auto)]
 
 ghost use Rattle.std.specs.Prelude.{◌≡◌, ◌+◌, ◌-◌, ◌≤◌, length};

@@ -1,4 +1,4 @@
-// Floor 2: one cover tested, and all covers listed.
+// Floor 2: one cover tested, and all covers listed. Why the log and its tables are no struct, `bases` says.
 #![tactic(auto)]
 
 ghost use Rattle.std.specs.Prelude.{◌≡◌, ◌++◌, cond, ◌+◌, ◌≤◌, ◌<◌, eqb, leb, length, drop};

@@ -1,4 +1,4 @@
-// Floor 2: normal forms and breakdowns, from the border table.
+// Floor 2: normal forms and breakdowns, from the border table. Why the log and its tables are no struct, `bases` says.
 #![tactic(auto)]
 
 ghost use Rattle.std.specs.Prelude.{◌≡◌, ◌≤◌, ◌<◌, eqb, length};

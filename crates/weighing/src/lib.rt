@@ -1,4 +1,4 @@
-// Floor 2: the weighed list of a log, from its border and its cover table.
+// Floor 2: the weighed list of a log, from its border and its cover table. Why the log and its tables are no struct, `bases` says.
 #![tactic(auto)]
 
 ghost use Rattle.std.specs.Prelude.{◌≡◌, ◌≤◌, ◌<◌, eqb, length};
@@ -40,6 +40,7 @@ pub fn list(x: &[u8], border: &[u16], cover: &[u16]) -> words::Weighed
 {
     let limit = exponent(x.len());
     let mut lens = [0u16; words::WEIGHED_PLACES];
+    // The chain ends by itself: k counts what it wrote.
     let mut k = 0;
     let mut w = heaviest(x, border, cover, x.len());
     while w != 0 {
