@@ -1,9 +1,6 @@
 -- Work arrays: zeros in every place, with room for every log that is judged, and what a table function leaves in one. Assumes nothing.
-use mathlib.Core.Path.{◌≡◌}
-use mathlib.Core.List.{List}
-use Prim.Native.Nat.{ℕ, ◌+◌, ◌≤◌}
-use native.Mathlib.Omega.{arith}
-use lib.ListN.{length, replicate, length-replicate, get_or-replicate}
+use Rattle.std.proofs.Common.{◌≡◌, List, ℕ, ◌+◌, ◌≤◌, arith, length, replicate}
+use lib.ListN.{length-replicate, get_or-replicate}
 use Rattle.words.specs.Tables.{Column, written}
 use Rattle.words.specs.Refusals.{longest}
 use Rattle.words.proofs.Tables.{Holds, written_holds}

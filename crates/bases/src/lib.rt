@@ -1,4 +1,6 @@
 // Floor 2: the two tables that the others are made from, in arrays that are lent.
+// A log and its tables go on as slices, with `Holds` for what a table has, and not as a struct: the normal form and the breakdown read the border table alone,
+// the list of covers the cover table alone, the weighed list both, and the enhanced table is laid over them, so it would be a type for each.
 #![tactic(auto)]
 
 ghost use Rattle.std.specs.Prelude.{◌≡◌, ◌≤◌, length};
@@ -12,11 +14,8 @@ fn copy(x: &[u8], from: &[u16], to: &mut [u16])
     requires { (length x.now ≤ length from.now) × Room x.now to.old }
     ensures { to.new ≡ written (copy_row from.now x.now) (length x.now) to.old }
 {
-    let mut r = 0;
-    while r < x.len() {
-        to[r] = from[r];
-        r += 1;
-    }
+    let n = x.len();
+    to[..n].copy_from_slice(&from[..n]);
 }
 
 // The border table of x, then its cover table, with two arrays lent for the cover table's tree.

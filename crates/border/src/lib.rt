@@ -20,7 +20,7 @@ fn extend(x: &[u8], t: &[u16], r: usize, b: usize) -> usize
         if k == 0 {
             return 0;
         }
-        k = words::wide(t[k - 1]);
+        k = usize::from(t[k - 1]);
     }
 }
 
@@ -30,11 +30,9 @@ fn fill(x: &[u8], t: &mut [u16])
     ensures { t.new ≡ written (border_row x.now) (length x.now) t.old }
 {
     let mut b = 0;
-    let mut r = 1;
-    while r < x.len() {
+    for r in 1..x.len() {
         b = extend(x, t, r, b);
         t[r] = b as u16;
-        r += 1;
     }
 }
 
@@ -43,7 +41,7 @@ pub fn rows(x: &[u8], t: &mut [u16])
     requires { Room x.now t.old }
     ensures { t.new ≡ written (border_row x.now) (length x.now) t.old }
 {
-    if x.len() == 0 {
+    if x.is_empty() {
         return;
     }
     t[0] = 0;

@@ -1,15 +1,8 @@
 -- What `held` means, in the sentence's own words, and what it comes to on every log. Assumes nothing.
-use mathlib.Core.Bool.{true, false, cond, true≢false}
-use mathlib.Core.Path.{◌≡◌, refl, sym, ap, ◌∙◌}
-use mathlib.Core.List.{List, [], ◌∷◌, ◌++◌}
-use mathlib.Core.Logic.{◌⊎◌, inl, inr, ⊎_elim, ◌↔◌}
-use Prim.Native.Nat.{ℕ, suc, ◌+◌, ◌-◌, ◌≤◌, ◌<◌, min}
-use native.Mathlib.Nat.{zero-add}
-use native.Mathlib.Omega.{arith}
-use lib.Dec.{eqb, leb}
-use lib.ListN.{length, get_or, drop, replicate, length-drop, length-append, length-replicate, get_or-replicate}
-use lib.Seq.{ext_get_or, get_or-drop, get_or-append_seam, get_or-append-add}
-use borrow.Author.Tests.{eq-eqb, ne_eqb, eqb-true, le-leb, lt-leb}
+use Rattle.std.proofs.Common.{true, false, cond, true≢false, ◌≡◌, refl, sym, ap, ◌∙◌, List, [], ◌∷◌, ◌++◌, ◌⊎◌, inl, inr, ⊎_elim, ◌↔◌, ℕ, suc, ◌+◌, ◌-◌, ◌≤◌, ◌<◌, min, zero-add, arith, eqb, leb, length, get_or, drop, replicate, length-drop, length-append, ext_get_or, get_or-drop, get_or-append-add, eq-eqb, ne_eqb, eqb-true, le-leb}
+use lib.ListN.{length-replicate, get_or-replicate}
+use lib.Seq.{get_or-append_seam}
+use borrow.Author.Tests.{lt-leb}
 use Rattle.words.specs.PlantFile.{ceiling_symbol}
 use Rattle.words.proofs.Tests.{le_or_lt, eq_or_ne, not_passed}
 use Rattle.words.proofs.Search.{all_at, at_all, how_many_all, how_many_none, how_many_zero}

@@ -1,11 +1,6 @@
 -- What the contract comes to for a caller whose log is accepted. Assumes nothing.
-use mathlib.Core.Bool.{Bool, true, false, cond, true≢false}
-use mathlib.Core.Path.{◌≡◌, refl, sym, ap, ◌∙◌}
-use mathlib.Core.List.{List}
-use mathlib.Core.Logic.{◌↔◌}
-use Prim.Native.Nat.{ℕ}
-use native.Mathlib.Omega.{arith}
-use lib.ListN.{length, length-replicate}
+use Rattle.std.proofs.Common.{Bool, true, false, cond, true≢false, ◌≡◌, refl, sym, ap, ◌∙◌, List, ◌↔◌, ℕ, arith, length}
+use lib.ListN.{length-replicate}
 use Rattle.words.specs.Refusals.{log_no}
 use Rattle.words.specs.PlantFile.{ceiling_symbol}
 use Rattle.words.proofs.Refusals.{answer_yes, log_judged}

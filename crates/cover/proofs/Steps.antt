@@ -1,14 +1,5 @@
 -- What each way through the cover table's functions comes to, on plain lists and numbers. Assumes nothing.
-use mathlib.Core.Path.{◌≡◌, refl, sym, ap, ◌∙◌}
-use mathlib.Core.List.{List}
-use Prim.Native.Nat.{ℕ, ◌+◌, ◌*◌, ◌-◌, ◌≤◌, ◌<◌}
-use native.Mathlib.Nat.{le_antisymm}
-use native.Mathlib.Omega.{arith}
-use lib.ListN.{length, get_or, set, length-set}
-use lib.Seq.{get_or-set_same, get_or-set_other}
-use lib.Dec.{eqb}
-use mir.Syntax.{w16, w64}
-use mir.Val.{Fits}
+use Rattle.std.proofs.Common.{◌≡◌, refl, sym, ap, ◌∙◌, List, ℕ, ◌+◌, ◌-◌, ◌≤◌, ◌<◌, arith, length, get_or, set, length-set, get_or-set_same, get_or-set_other, eqb, w16, Fits}
 use Rattle.words.specs.Words.{border, cover}
 use Rattle.words.specs.Tables.{border_row, cover_row}
 use Rattle.words.specs.Refusals.{longest}
@@ -38,19 +29,11 @@ module _ {x t up kids : List ℕ} {per j q : ℕ} (k : Filled cover_row x t j) (
     pub retire_inside : r < length kids
     retire_inside = omega (arith, retire_falls, w.below, w.forest.inside, w.forest.counts)
 
-    pub retire_scaled : length x ≤ longest → Fits w64 (r * 2)
-    retire_scaled h = omega (arith, retire_falls, w.below, k.inside)
-
     pub retire_counted : 1 ≤ get_or kids r 0
     retire_counted = fall_counted w none r row
 
     pub retire_next : (v : ℕ) → v ≡ get_or kids r 0 - 1 → Falling x (set up q (get_or t (q - 1) 0)) (set kids r v) per j r
     retire_next v ev = rw (← e) (fall_next w none r row v ev)
-
--- ---- `advance`
-
-pub advance_done : {x up kids : List ℕ} {j p : ℕ} (to : ℕ) → Forest x up kids p j 0 → p ≤ to → to ≤ p → Forest x up kids to j 0
-advance_done {x} {up} {kids} {j} to f l h = let e : to ≡ _ = le_antisymm h l in rw e f
 
 -- ---- `find`
 
@@ -68,9 +51,6 @@ module _ {x up kids : List ℕ} {j b q : ℕ} (f : Forest x up kids (j + 1 - b) 
     module _ (dead : u ≡ q → ⊥) where
       pub find_inside : u < length up
       find_inside = omega (arith, jump_below f w.below dead eu refl, w.below, f.inside, f.ups)
-
-      pub find_scaled : length x ≤ longest → Fits w64 (u * 2)
-      find_scaled h = omega (arith, jump_below f w.below dead eu refl, w.below, f.inside)
 
       pub find_falls : (g : ℕ) → g ≡ get_or up u 0 → g < q
       find_falls g eg = jump_falls f w.below dead eu eg
@@ -108,14 +88,8 @@ module _ {x up kids : List ℕ} {j f q : ℕ} (w : Found x up kids j f q) (h : j
   pub grow_low : q ≤ j
   grow_low = omega (arith, w.cover, cover_lt eqb x (j + 1) (omega arith))
 
-  pub grow_fits : length x ≤ longest → Fits w16 q
-  grow_fits s = omega (arith, grow_low)
-
   pub grow_inside : q < length kids
   grow_inside = omega (arith, grow_low, w.forest.counts)
-
-  pub grow_scaled : length x ≤ longest → Fits w64 (q * 2)
-  grow_scaled s = omega (arith, grow_low)
 
   pub grow_count : length x ≤ longest → Fits w16 (get_or kids q 0 + 1)
   grow_count s = omega (arith, count_fits w.forest h (omega arith) q grow_low)

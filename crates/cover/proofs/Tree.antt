@@ -1,15 +1,6 @@
 -- The tree of covers: who lives covers a prefix from the period on and back; a node that dies, a jump over the dead, one length more. Assumes nothing.
-use mathlib.Core.Bool.{Bool, true, false, and-eq-true_iff}
-use mathlib.Core.Path.{◌≡◌, refl, sym, ap, ◌∙◌}
-use mathlib.Core.List.{List}
-use mathlib.Core.Logic.{◌⊎◌, inl, inr, ⊎_elim}
-use Prim.Native.Nat.{ℕ, zero, suc, ◌+◌, ◌-◌, ◌≤◌, ◌<◌}
-use native.Mathlib.Nat.{eq-or-lt_of_le, le_refl}
-use native.Mathlib.Omega.{arith}
-use lib.ListN.{length, get_or, set, length-set}
-use lib.Seq.{get_or-set_same, get_or-set_other}
-use lib.Dec.{eqb}
-use borrow.Author.Tests.{eqb-true, eq-eqb}
+use Rattle.std.proofs.Common.{Bool, true, false, ◌≡◌, refl, sym, ap, ◌∙◌, List, ◌⊎◌, inl, inr, ⊎_elim, ℕ, zero, suc, ◌+◌, ◌-◌, ◌≤◌, ◌<◌, eq-or-lt_of_le, le_refl, arith, length, get_or, set, length-set, get_or-set_same, get_or-set_other, eqb, eqb-true, eq-eqb}
+use mathlib.Core.Bool.{and-eq-true_iff}
 use Rattle.words.specs.Search.{how_many}
 use Rattle.words.specs.Words.{border, cover}
 use Rattle.words.proofs.Tests.{both_ways, not_passed, le_or_lt, eq_or_ne}

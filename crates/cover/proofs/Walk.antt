@@ -1,11 +1,5 @@
 -- The walk up the tree of covers, from the border to the longest proper cover. Assumes nothing.
-use mathlib.Core.Path.{◌≡◌}
-use mathlib.Core.List.{List}
-use mathlib.Core.Logic.{◌⊎◌, inl, inr, ⊎_elim}
-use Prim.Native.Nat.{ℕ, ◌+◌, ◌≤◌, ◌<◌}
-use native.Mathlib.Nat.{le_antisymm, eq-zero-or-pos}
-use native.Mathlib.Omega.{arith}
-use lib.Dec.{eqb}
+use Rattle.std.proofs.Common.{◌≡◌, List, ◌⊎◌, inl, inr, ⊎_elim, ℕ, ◌+◌, ◌≤◌, ◌<◌, le_antisymm, eq-zero-or-pos, arith, eqb}
 use Rattle.words.specs.Words.{border, cover}
 use Rattle.words.proofs.Occurrences.{eqb_refl}
 use Rattle.words.proofs.Borders.{border_border}

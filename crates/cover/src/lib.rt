@@ -1,4 +1,5 @@
 // Floor 2: the cover table of a log, on line, by the tree of longest proper covers (specs/Tree).
+// up and kids are two slices, and no struct or array of pairs: they are lent, and the enhanced table has its last ends and its counts in them afterwards.
 #![tactic(auto)]
 
 ghost use Rattle.std.specs.Prelude.{◌≡◌, ◌+◌, ◌-◌, ◌≤◌, length};
@@ -16,7 +17,7 @@ fn retire(x: &[u8], t: &[u16], up: &mut [u16], kids: &mut [u16], j: usize, p: us
     while kids[q] == 0 {
         let c = t[q - 1];
         up[q] = c;
-        q = words::wide(c);
+        q = usize::from(c);
         kids[q] -= 1;
     }
 }
@@ -26,10 +27,8 @@ fn advance(x: &[u8], t: &[u16], up: &mut [u16], kids: &mut [u16], j: usize, from
     requires { Filled cover_row x.now t.now j × Forest x.now up.old kids.old from j 0 × (from ≤ to) × (to ≤ j + 1) × (length x.now ≤ longest) }
     ensures { Forest x.now up.new kids.new to j 0 }
 {
-    let mut p = from;
-    while p < to {
+    for p in from..to {
         retire(x, t, up, kids, j, p);
-        p += 1;
     }
 }
 
@@ -40,13 +39,13 @@ fn find(x: &[u8], up: &mut [u16], kids: &[u16], j: usize, b: usize) -> usize
 {
     let mut q = b;
     loop {
-        let u = words::wide(up[q]);
+        let u = usize::from(up[q]);
         if u == q {
             return q;
         }
         let g = up[u];
         up[q] = g;
-        q = words::wide(g);
+        q = usize::from(g);
     }
 }
 
@@ -56,9 +55,8 @@ fn grow(x: &[u8], up: &mut [u16], kids: &mut [u16], t: &mut [u16])
     ensures { t.new ≡ written (cover_row x.now) (length x.now) t.old }
 {
     let mut period = 1;
-    let mut j = 0;
-    while j < x.len() {
-        let b = words::wide(t[j]);
+    for j in 0..x.len() {
+        let b = usize::from(t[j]);
         let i = j + 1;
         advance(x, t, up, kids, j, period, i - b);
         let q = find(x, up, kids, j, b);
@@ -66,7 +64,6 @@ fn grow(x: &[u8], up: &mut [u16], kids: &mut [u16], t: &mut [u16])
         up[i] = i as u16;
         kids[q] += 1;
         period = i - b;
-        j = i;
     }
 }
 

@@ -1,17 +1,9 @@
 -- The list of covers, written from the longest down: the entries from `left` on are in place. Assumes nothing.
-use mathlib.Core.Path.{◌≡◌, refl, sym, ap, ◌∙◌}
-use mathlib.Core.List.{List, [], ◌∷◌, ◌++◌}
-use mathlib.Core.Logic.{◌⊎◌, inr, ⊎_elim}
-use Prim.Native.Nat.{ℕ, ◌+◌, ◌-◌, ◌≤◌, ◌<◌}
-use native.Mathlib.Omega.{arith}
-use lib.Dec.{eqb}
-use lib.ListN.{length, get_or, set, drop, length-set, length-append, length-drop, get_or-append}
-use lib.Seq.{ext_get_or, get_or_at, get_or-set_same, get_or-set_other, get_or-append-add, get_or-drop}
-use mir.Syntax.{w16}
-use mir.Val.{Fits}
+use Rattle.std.proofs.Common.{◌≡◌, refl, sym, ap, ◌∙◌, List, [], ◌∷◌, ◌++◌, ◌⊎◌, inr, ⊎_elim, ℕ, ◌+◌, ◌-◌, ◌≤◌, ◌<◌, arith, eqb, length, get_or, set, drop, length-set, length-append, length-drop, ext_get_or, get_or-set_same, get_or-set_other, get_or-append-add, get_or-drop}
+use lib.ListN.{get_or-append}
+use lib.Seq.{get_or_at}
 use Rattle.words.specs.Words.{cover, cover_list}
 use Rattle.words.specs.Tables.{cover_row}
-use Rattle.words.specs.Refusals.{longest}
 use Rattle.words.proofs.Tests.{le_or_lt, eq_or_ne}
 use Rattle.words.proofs.Tables.{Room, Holds}
 use Rattle.words.proofs.Occurrences.{eqb_refl}
@@ -59,10 +51,7 @@ pub counted_first : (x : List ℕ) → 0 < length x → Counted x 0 (length x)
 counted_first x h = record { chained = chained_first x h; number = omega (arith, ap length (up_to_all x)); less = omega arith }
 
 module _ {x : List ℕ} {k q : ℕ} (w : Counted x k q) where
-  module _ (some : 0 < q) {t : List ℕ} (h : Holds cover_row x t) (p : ℕ) (e : p ≡ get_or t (q - 1) 0) where
-    nz : q ≡ 0 → ⊥
-    nz z = omega arith
-
+  module _ (nz : q ≡ 0 → ⊥) {t : List ℕ} (h : Holds cover_row x t) (p : ℕ) (e : p ≡ get_or t (q - 1) 0) where
     pub counted_falls : p < q
     counted_falls = chained_falls w.chained nz h p e
 
@@ -73,10 +62,8 @@ module _ {x : List ℕ} {k q : ℕ} (w : Counted x k q) where
       less = omega (arith, counted_falls, w.less);
     }
 
-  pub counted_done : q ≤ 0 → k ≡ length (cover_list eqb x)
-  counted_done l =
-      let z : q ≡ 0 = omega arith in
-      omega (arith, w.number, ap (λ (r : ℕ). length (up_to x (length x) r)) z, ap length (up_to_none x (length x)))
+  pub counted_done : q ≡ 0 → k ≡ length (cover_list eqb x)
+  counted_done z = omega (arith, w.number, ap (λ (r : ℕ). length (up_to x (length x) r)) z, ap length (up_to_none x (length x)))
 
 -- ---- `write_chain`: of the list the entries from `left` on are written, and the first `left` are the covers up to q
 
@@ -103,18 +90,15 @@ placed_first {x} {t} {k} h s e = record {
 }
 
 module _ {x t₀ t : List ℕ} {left q : ℕ} (w : Placed x t₀ t left q) where
-  module _ (nz : q ≡ 0 → ⊥) where
+  module _ (some : 0 < left) where
+    nz : q ≡ 0 → ⊥
+    nz z = omega (arith, w.number, ap (λ (r : ℕ). length (up_to x (length x) r)) z, ap length (up_to_none x (length x)))
+
+    pub placed_cover : 1 ≤ q
+    placed_cover = omega (arith, nz)
+
     c : Covers eqb x (length x) q
     c = chained_covers w.chained nz
-
-    pub placed_some : 1 ≤ left
-    placed_some = omega (arith, w.number, up_to_length x (length x) q c)
-
-    pub placed_inside : left - 1 < length t
-    placed_inside = omega (arith, placed_some, w.most, w.room, w.same)
-
-    pub placed_fits : length x ≤ longest → Fits w16 q
-    placed_fits s = omega (arith, w.chained.within)
 
     module _ {s : List ℕ} (h : Holds cover_row x s) (p : ℕ) (e : p ≡ get_or s (q - 1) 0) where
       before : length (up_to x (length x) p) ≡ left - 1
@@ -123,30 +107,26 @@ module _ {x t₀ t : List ℕ} {left q : ℕ} (w : Placed x t₀ t left q) where
       split : up_to x (length x) q ≡ up_to x (length x) p ++ (q ∷ [])
       split = rw (is_cover w.chained nz h p e) (up_to_next x (length x) q c)
 
-      pub placed_falls : p < q
-      placed_falls = chained_falls w.chained nz h p e
-
       pub placed_next : Placed x t₀ (set t (left - 1) q) (left - 1) p
       placed_next = record {
         chained = chained_next w.chained nz h p e;
         number = sym before;
         most = omega (arith, w.most);
-        front = λ r l. w.front r (omega (arith, placed_some)) ∙ ap (λ (y : List ℕ). get_or y r 0) split
+        front = λ r l. w.front r (omega arith) ∙ ap (λ (y : List ℕ). get_or y r 0) split
             ∙ get_or-append (up_to x (length x) p) (q ∷ []) 0 r (omega (arith, before));
         room = w.room;
         same = length-set t (left - 1) q ∙ w.same;
         made = λ r l u. ⊎_elim
-            (λ (z : r ≡ left - 1). rw z (get_or-set_same t (left - 1) q 0 placed_inside
-            ∙ sym (w.front (left - 1) (omega (arith, placed_some)) ∙ ap (λ (y : List ℕ). get_or y (left - 1) 0) split
+            (λ (z : r ≡ left - 1). rw z (get_or-set_same t (left - 1) q 0 (omega (arith, w.most, w.room, w.same))
+            ∙ sym (w.front (left - 1) (omega arith) ∙ ap (λ (y : List ℕ). get_or y (left - 1) 0) split
             ∙ get_or_at (up_to x (length x) p) q [] 0 (left - 1) before)))
             (λ (ne : r ≡ left - 1 → ⊥). get_or-set_other t (left - 1) r q 0 ne ∙ w.made r (omega arith) u)
             (eq_or_ne r (left - 1));
-        stays = λ r l. get_or-set_other t (left - 1) r q 0 (λ z. omega (arith, placed_some, w.most)) ∙ w.stays r l;
+        stays = λ r l. get_or-set_other t (left - 1) r q 0 (λ z. omega (arith, w.most)) ∙ w.stays r l;
       }
 
-  pub placed_done : q ≡ 0 → t ≡ cover_list eqb x ++ drop (length (cover_list eqb x)) t₀
-  placed_done z =
-      let n : left ≡ 0 = omega (arith, w.number, ap (λ (r : ℕ). length (up_to x (length x) r)) z, ap length (up_to_none x (length x))) in
+  pub placed_done : left ≤ 0 → t ≡ cover_list eqb x ++ drop (length (cover_list eqb x)) t₀
+  placed_done n =
       let l : List ℕ = cover_list eqb x in
       ext_get_or 0 t (l ++ drop (length l) t₀) (w.same ∙ sym (simp (length-append, length-drop) (omega (arith, w.room)))) (λ r h. ⊎_elim
       (λ (g : length l ≤ r).

@@ -1,17 +1,8 @@
 -- The sweep that tests a cover: all up to the last end is covered, and no occurrence before s ends later. Assumes nothing.
-use mathlib.Core.Bool.{false, cond}
-use mathlib.Core.Path.{◌≡◌, sym, ◌∙◌}
-use mathlib.Core.List.{List}
-use mathlib.Core.Logic.{⊎_elim}
-use Prim.Native.Nat.{ℕ, ◌+◌, ◌-◌, ◌≤◌, ◌<◌}
-use native.Mathlib.Nat.{eq-or-lt_of_le}
-use native.Mathlib.Omega.{arith}
-use lib.Dec.{eqb, leb}
-use lib.ListN.{length, get_or}
-use borrow.Author.Tests.{eq-eqb, ne_eqb, leb-true, leb-false, le-leb, lt-leb}
+use Rattle.std.proofs.Common.{false, ◌≡◌, sym, ◌∙◌, List, ⊎_elim, ℕ, ◌+◌, ◌-◌, ◌≤◌, ◌<◌, eq-or-lt_of_le, arith, eqb, length, get_or, eq-eqb, ne_eqb}
 use Rattle.words.specs.Words.{covers}
 use Rattle.words.specs.Tables.{prefix_row}
-use Rattle.words.proofs.Tests.{cond_case, not_passed, le_or_lt}
+use Rattle.words.proofs.Tests.{not_passed, le_or_lt}
 use Rattle.words.proofs.Tables.{Holds}
 use Rattle.words.proofs.Occurrences.{Occurs, occurs_shorter}
 use Rattle.words.proofs.Prefixes.{prefix_reaches, prefix_most}
@@ -23,26 +14,23 @@ pub record Swept (x : List ℕ) (q s end : ℕ) : Type 0 where
   pub each : (p : ℕ) → p < end → Inside eqb x end q p
   pub last : (t : ℕ) → t < s → Occurs eqb x q t → t + q ≤ end
 
-pub swept_none : (x : List ℕ) (q : ℕ) → 0 < q → q ≤ length x → Swept x q 0 0
-swept_none x q h l = record { done = omega arith; bound = omega arith; each = λ p u. absurd (omega arith); last = λ t u. absurd (omega arith) }
-
 module _ {x : List ℕ} {q s end : ℕ} (w : Swept x q s end) (some : 0 < q) where
   -- the position after `end` readings lies in no occurrence that starts before s, and none that starts later begins before it
   gap : (e : ℕ) → end < e → (t : ℕ) → t ≤ end → t < s → Occurs eqb x q t → end < t + q → ⊥
   gap e h t l u o v = omega (arith, w.last t u o)
 
   -- a start beyond the last end: that position is left over
-  pub swept_gap : q ≤ length x → s ≤ length x - q → end < s → false ≡ covers eqb x (length x) q
+  pub swept_gap : q ≤ length x → s < length x - q + 1 → end < s → false ≡ covers eqb x (length x) q
   swept_gap l m h = sym (not_passed (covers eqb x (length x) q) (λ t.
       let u = ((covers_iff eqb x (length x) q).0 t).each end (omega arith) in
       gap (end + 1) (omega arith) u.start u.from (omega (arith, u.from)) u.occurs u.to))
 
-  module _ (in_reach : s ≤ end) (l : q ≤ length x) (m : s ≤ length x - q) {t : List ℕ} (h : Holds prefix_row x t) (v : ℕ) (e : v ≡ get_or t s 0) where
+  module _ (in_reach : s ≤ end) (l : q ≤ length x) (m : s < length x - q + 1) {t : List ℕ} (h : Holds prefix_row x t) (v : ℕ) (e : v ≡ get_or t s 0) where
     is_row : v ≡ prefix_row x s
     is_row = e ∙ h.rows s (omega (arith, some))
 
     -- an occurrence at s takes the end further, and one that is not there leaves it
-    swept_hit : q ≤ v → Swept x q (s + 1) (s + q)
+    pub swept_hit : q ≤ v → Swept x q (s + 1) (s + q)
     swept_hit g =
         let o = occurs_shorter eqb x (prefix_row x s) q s (omega (arith, is_row)) (prefix_reaches eqb x s (omega arith)).occurs in record {
           done = omega arith;
@@ -54,7 +42,7 @@ module _ {x : List ℕ} {q s end : ℕ} (w : Swept x q s end) (some : 0 < q) whe
           last = λ t u _. omega arith;
         }
 
-    swept_miss : v < q → Swept x q (s + 1) end
+    pub swept_miss : v < q → Swept x q (s + 1) end
     swept_miss g = record {
       done = omega arith;
       bound = omega (arith, w.bound);
@@ -65,11 +53,8 @@ module _ {x : List ℕ} {q s end : ℕ} (w : Swept x q s end) (some : 0 < q) whe
           (eq-or-lt_of_le (omega arith));
     }
 
-    pub swept_next : (r : ℕ) → r ≡ cond (leb q v) (s + q) end → Swept x q (s + 1) r
-    swept_next r z = rw z (cond_case (λ (k : ℕ). Swept x q (s + 1) k) (leb q v) (λ t. swept_hit (leb-true q v t)) (λ t. swept_miss (leb-false q v t)))
-
   -- past the last start: covered exactly where the last end is the log's
-  pub swept_done : q ≤ length x → length x - q < s → eqb end (length x) ≡ covers eqb x (length x) q
+  pub swept_done : q ≤ length x → length x - q + 1 ≤ s → eqb end (length x) ≡ covers eqb x (length x) q
   swept_done l m = ⊎_elim
       (λ (z : end ≡ length x). eq-eqb _ _ z ∙ sym ((covers_iff eqb x (length x) q).1 (record {
         some = some;
@@ -80,12 +65,3 @@ module _ {x : List ℕ} {q s end : ℕ} (w : Swept x q s end) (some : 0 < q) whe
       let u = ((covers_iff eqb x (length x) q).0 t).each end g in
       gap (length x) g u.start u.from (omega (arith, u.ends)) u.occurs u.to)))
       (eq-or-lt_of_le (omega (arith, w.bound, w.done)))
-
--- ---- `reach`
-
-module _ (q v : ℕ) (a b : ℕ) where
-  pub reach_on : q ≤ v → a ≡ cond (leb q v) a b
-  reach_on h = simp (le-leb q v h)
-
-  pub reach_stays : v < q → b ≡ cond (leb q v) a b
-  reach_stays h = simp (lt-leb q v h)

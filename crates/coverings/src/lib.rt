@@ -1,4 +1,4 @@
-// Floor 2: one cover tested, and all covers listed.
+// Floor 2: one cover tested, and all covers listed. Why the log and its tables are no struct, `bases` says.
 #![tactic(auto)]
 
 ghost use Rattle.std.specs.Prelude.{◌≡◌, ◌++◌, cond, ◌+◌, ◌≤◌, ◌<◌, eqb, leb, length, drop};
@@ -7,28 +7,20 @@ ghost use Rattle.words.specs.Tables.{prefix_row, cover_row};
 ghost use Rattle.words.specs.Refusals.{longest};
 ghost use Rattle.words.proofs.Tables.{Room, Holds};
 
-// The last end once the place after s readings is passed, where the first v readings occur: of a pattern of length q it moves on if they are enough.
-fn reach(q: usize, v: usize, s: usize, end: usize) -> usize
-    requires { (s ≤ longest) × (q ≤ longest) }
-    ensures { result ≡ cond (leb q v) (s + q) end }
-{
-    if q <= v { s + q } else { end }
-}
-
 // Whether the first q readings of x cover all of it: one pass over the places, with the last end kept. The prefix table says where they occur.
 pub fn sweep(x: &[u8], prefix: &[u16], q: usize) -> bool
     requires { Holds prefix_row x.now prefix.now × (0 < q) × (q ≤ length x.now) × (length x.now ≤ longest) }
     ensures { result ≡ covers eqb x.now (length x.now) q }
 {
-    let last = x.len() - q;
+    let places = x.len() - q + 1;
     let mut end = 0;
-    let mut s = 0;
-    while s <= last {
+    for s in 0..places {
         if end < s {
             return false;
         }
-        end = reach(q, words::wide(prefix[s]), s, end);
-        s += 1;
+        if q <= usize::from(prefix[s]) {
+            end = s + q;
+        }
     }
     end == x.len()
 }
@@ -40,9 +32,9 @@ fn chain_length(x: &[u8], cover: &[u16]) -> usize
 {
     let mut k = 0;
     let mut q = x.len();
-    while 0 < q {
+    while q != 0 {
         k += 1;
-        q = words::wide(cover[q - 1]);
+        q = usize::from(cover[q - 1]);
     }
     k
 }
@@ -52,12 +44,10 @@ fn write_chain(x: &[u8], cover: &[u16], k: usize, t: &mut [u16])
     requires { Room x.now t.old × Holds cover_row x.now cover.now × (0 < length x.now) × (k ≡ length (cover_list eqb x.now)) }
     ensures { t.new ≡ cover_list eqb x.now ++ drop (length (cover_list eqb x.now)) t.old }
 {
-    let mut left = k;
     let mut q = x.len();
-    while q != 0 {
-        left -= 1;
+    for left in (0..k).rev() {
         t[left] = q as u16;
-        q = words::wide(cover[q - 1]);
+        q = usize::from(cover[q - 1]);
     }
 }
 

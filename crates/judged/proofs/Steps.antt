@@ -1,10 +1,6 @@
 -- What the last row is, and what stands in the array of the chain. Assumes nothing.
-use mathlib.Core.Path.{◌≡◌, ap, ◌∙◌}
-use mathlib.Core.List.{List}
-use Prim.Native.Nat.{ℕ, ◌+◌, ◌-◌, ◌≤◌}
-use native.Mathlib.Omega.{arith}
-use lib.Dec.{eqb}
-use lib.ListN.{length, get_or, replicate, length-replicate}
+use Rattle.std.proofs.Common.{◌≡◌, ap, ◌∙◌, List, ℕ, ◌+◌, ◌-◌, ◌≤◌, arith, eqb, length, get_or, replicate}
+use lib.ListN.{length-replicate}
 use Rattle.words.specs.Words.{best}
 use Rattle.words.specs.Tables.{written, cover_row, best_row}
 use Rattle.words.specs.Refusals.{longest}

@@ -3,9 +3,10 @@
 
 ghost use Rattle.std.specs.Prelude.{◌≡◌, ◌++◌, ◌≤◌, ◌<◌, eqb, length, drop};
 ghost use Rattle.words.specs.Words as Words;
-ghost use Rattle.words.specs.Tables.{cover_row, best_row, count_row, written};
+ghost use Rattle.words.specs.Tables.{border_row, cover_row, best_row, count_row, written};
+ghost use Rattle.words.specs.Refusals.{longest};
 ghost use Rattle.words.specs.Answers.{breakdown_places, broken, listed};
-ghost use Rattle.words.proofs.Tables.{Room};
+ghost use Rattle.words.proofs.Tables.{Room, Holds};
 ghost use Rattle.words.proofs.Refusals.{Judged};
 
 // By how much the array of the chain is longer than the others. Where two lie a multiple of 4,096 bytes apart, a read of the one waits for a store to the same
@@ -46,7 +47,17 @@ pub fn best(x: &[u8]) -> usize
     let mut best = [0u16; words::LONGEST];
     let mut count = [0u16; words::LONGEST];
     enhanced(x, &mut best, &mut count);
-    words::wide(best[x.len() - 1])
+    usize::from(best[x.len() - 1])
+}
+
+// The border table of x, in an array of its own.
+fn border_table(x: &[u8]) -> [u16; words::LONGEST]
+    requires { length x.now ≤ longest }
+    ensures { Holds border_row x.now result }
+{
+    let mut border = [0u16; words::LONGEST];
+    border::rows(x, &mut border);
+    border
 }
 
 // The normal form of x.
@@ -54,9 +65,7 @@ pub fn normal(x: &[u8]) -> words::Part
     requires { Judged (length x.now) }
     ensures { result ≡ Words.normal eqb x.now (length x.now) }
 {
-    let mut border = [0u16; words::LONGEST];
-    border::rows(x, &mut border);
-    parts::normal(x, &border, x.len())
+    parts::normal(x, &border_table(x), x.len())
 }
 
 // The breakdown of x.
@@ -64,9 +73,7 @@ pub fn breakdown(x: &[u8]) -> words::Breakdown
     requires { Judged (length x.now) }
     ensures { result ≡ broken 0 (Words.breakdown eqb x.now breakdown_places (length x.now)) }
 {
-    let mut border = [0u16; words::LONGEST];
-    border::rows(x, &mut border);
-    parts::breakdown(x, &border)
+    parts::breakdown(x, &border_table(x))
 }
 
 // Whether the first q readings of x cover all of it.

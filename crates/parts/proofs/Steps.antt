@@ -1,17 +1,6 @@
 -- What each way through the normal form and the breakdown comes to, on plain lists and numbers. Assumes nothing.
-use mathlib.Core.Path.{◌≡◌, refl, sym, ap, ◌∙◌}
-use mathlib.Core.List.{List, [], ◌∷◌, ◌++◌, append_assoc, append-nil}
-use mathlib.Core.Logic.{⊎_elim}
-use Prim.Native.Nat.{ℕ, suc, ◌+◌, ◌-◌, ◌*◌, ◌/◌, ◌%◌, ◌^◌, ◌≤◌, ◌<◌}
-use native.Mathlib.Nat.{mul-le-mul_right, mul_comm, mul_assoc, pow-succ', mod-lt, div-le_self}
-use native.Mathlib.Numerals.{add-one}
-use native.Mathlib.Omega.{arith}
-use lib.Pow.{pow_mono}
-use lib.Dec.{eqb}
-use lib.ListN.{length, get_or, set, replicate, length-append}
-use borrow.Author.Tests.{lt-ltb, le-ltb}
-use mir.Syntax.{w16}
-use mir.Val.{Fits}
+use Rattle.std.proofs.Common.{◌≡◌, refl, sym, ap, ◌∙◌, List, [], ◌∷◌, ◌++◌, append_assoc, append-nil, ⊎_elim, ℕ, suc, ◌+◌, ◌-◌, ◌*◌, ◌/◌, ◌%◌, ◌^◌, ◌≤◌, ◌<◌, mul-le-mul_right, mul_comm, mul_assoc, mod-lt, div-le_self, add-one, arith, pow_mono, eqb, length, get_or, set, replicate, length-append, w16, Fits}
+use native.Mathlib.Nat.{pow-succ'}
 use Rattle.words.specs.declared.Part.{Part}
 use Rattle.words.specs.declared.Breakdown.{Breakdown}
 use Rattle.words.specs.Words.{border, normal, next, breakdown}
@@ -50,22 +39,6 @@ module _ {x t : List ℕ} (h : Holds border_row x t) {i : ℕ} (some : 0 < i) (w
   pub normal_is : record { len = i; k1 = i - b; k2 = i % (i - b); k = i / (i - b) } ≡ normal eqb x i
   unfolding normal
   normal_is = rw is_border_lem
-
--- ---- `next`
-
-module _ (p : Part) where
-  pub next_rest : 0 < p.k2 → p.k2 ≡ next p
-  unfolding next
-  next_rest h = simp (lt-ltb 0 p.k2 h)
-
-  module _ (z : p.k2 ≤ 0) where
-    pub next_period : 1 < p.k → p.k1 ≡ next p
-    unfolding next
-    next_period h = simp (le-ltb 0 p.k2 z, lt-ltb 1 p.k h)
-
-    pub next_none : p.k ≤ 1 → 0 ≡ next p
-    unfolding next
-    next_none h = simp (le-ltb 0 p.k2 z, le-ltb 1 p.k h)
 
 -- ---- `descend`
 
@@ -113,9 +86,6 @@ module _ {x : List ℕ} {i d : ℕ} (g : Deep x i d) where
         let m : l ++ breakdown eqb x (breakdown_places - d) i ≡ l = ap (λ (y : List Part). l ++ y) (rw z (breakdown_none eqb x (breakdown_places - d))) ∙ append-nil l in
         rw (m, e, s, k);
   }
-
-  pub level_fits : Fits w16 d
-  level_fits = omega (arith, g.place)
 
 -- ---- `breakdown`
 

@@ -1,4 +1,4 @@
-// Floor 2: normal forms and breakdowns, from the border table.
+// Floor 2: normal forms and breakdowns, from the border table. Why the log and its tables are no struct, `bases` says.
 #![tactic(auto)]
 
 ghost use Rattle.std.specs.Prelude.{◌≡◌, ◌≤◌, ◌<◌, eqb, length};
@@ -14,7 +14,7 @@ pub fn normal(x: &[u8], border: &[u16], i: usize) -> words::Part
     requires { Holds border_row x.now border.now × (0 < i) × (i ≤ length x.now) × (length x.now ≤ longest) }
     ensures { result ≡ Words.normal eqb x.now i }
 {
-    let k1 = i - words::wide(border[i - 1]);
+    let k1 = i - usize::from(border[i - 1]);
     words::Part {
         len: i as u16,
         k1: k1 as u16,
@@ -24,16 +24,17 @@ pub fn normal(x: &[u8], border: &[u16], i: usize) -> words::Part
 }
 
 // The length of the part after p; 0 if the breakdown stops.
+#[tactic(auto, using(std::proofs::lemmas::Bool::Decides::nat_tests), unfolding(words::specs::Words::next))]
 fn next(p: words::Part) -> usize
     ensures { result ≡ Words.next p }
 {
     if p.k2 > 0 {
-        return words::wide(p.k2);
+        usize::from(p.k2)
+    } else if p.k > 1 {
+        usize::from(p.k1)
+    } else {
+        0
     }
-    if p.k > 1 {
-        return words::wide(p.k1);
-    }
-    0
 }
 
 // The parts from the prefix of length i on, into the places from d on. Each part is at most half of the one before, so there is a place for each.
@@ -48,15 +49,15 @@ fn descend(
     ensures { Broken x.now i d above result }
 {
     if i == 0 {
-        let mut done = above;
-        done.used = d as u16;
-        return done;
+        return words::Breakdown {
+            used: d as u16,
+            ..above
+        };
     }
     let p = normal(x, border, i);
     let mut more = above;
     more.parts[d] = p;
-    let n = next(p);
-    descend(x, border, n, more, d + 1)
+    descend(x, border, next(p), more, d + 1)
 }
 
 // The breakdown of a log.

@@ -1,13 +1,5 @@
 -- What each way through the prefix table's functions comes to, on plain lists and numbers. Assumes nothing.
-use mathlib.Core.Path.{◌≡◌, sym, ◌∙◌}
-use mathlib.Core.List.{List}
-use Prim.Native.Nat.{ℕ, ◌+◌, ◌-◌, ◌^◌, ◌≤◌, ◌<◌}
-use native.Mathlib.Omega.{arith}
-use lib.ListN.{length, get_or}
-use lib.Dec.{eqb}
-use borrow.Author.Tests.{eq-eqb, eqb-true}
-use mir.Syntax.{w16, w64}
-use mir.Val.{Fits}
+use Rattle.std.proofs.Common.{◌≡◌, sym, ◌∙◌, List, ℕ, ◌+◌, ◌-◌, ◌^◌, ◌≤◌, ◌<◌, arith, length, get_or, eqb, eq-eqb, eqb-true, w16, w64, Fits}
 use Rattle.prefix.specs.Stretch.{Stretch, Reached}
 use Rattle.words.specs.Tables.{prefix_row}
 use Rattle.words.specs.Refusals.{longest}
@@ -21,14 +13,11 @@ row_bound x r p e h = rw e (prefix_reaches eqb x r (omega arith)).within
 -- ---- `scan`
 
 module _ {x : List ℕ} {r k : ℕ} (c : Reaches eqb x r k) where
-  pub scan_more : k < length x - r → get_or x k 0 ≡ get_or x (r + k) 0 → Reaches eqb x r (k + 1)
-  scan_more h e = reaches_more eqb x r k c (omega arith) (eq-eqb _ _ e)
-
   pub scan_stop : (get_or x k 0 ≡ get_or x (r + k) 0 → ⊥) → k ≡ prefix_row x r
   scan_stop ne = prefix_is eqb x r k c (λ _ e. ne (eqb-true _ _ e))
 
-  pub scan_end : length x - r ≤ k → k ≡ prefix_row x r
-  scan_end h = prefix_is eqb x r k c (λ l _. omega arith)
+  pub scan_end : length x - r ≤ k → length x - r ≡ prefix_row x r
+  scan_end h = let e : length x - r ≡ k = omega arith in e ∙ prefix_is eqb x r k c (λ l _. omega arith)
 
 -- ---- `compare`
 

@@ -20,14 +20,13 @@ fn scan(x: &[u8], r: usize, m: usize) -> usize
     requires { Reaches eqb x.now r m }
     ensures { result ≡ prefix_row x.now r }
 {
-    let mut k = m;
-    while k < x.len() - r {
+    let most = x.len() - r;
+    for k in m..most {
         if x[k] != x[r + k] {
             return k;
         }
-        k += 1;
     }
-    k
+    most
 }
 
 // The row at r with the stretch that begins there, of which the first m readings are known to agree.
@@ -48,20 +47,15 @@ fn step(x: &[u8], t: &[u16], r: usize, s: Reach) -> Reach
     requires { Filled prefix_row x.now t.now r × Stretch x.now r s.from s.to × (0 < r) }
     ensures { Reached x.now r result.row result.from result.to }
 {
-    let from = s.from;
-    let to = s.to;
-    if to <= r {
+    if s.to <= r {
         return compare(x, r, 0);
     }
-    let known = words::wide(t[r - from]);
-    if known < to - r {
-        return Reach {
-            row: known,
-            from: from,
-            to: to,
-        };
+    let known = usize::from(t[r - s.from]);
+    if known < s.to - r {
+        Reach { row: known, ..s }
+    } else {
+        compare(x, r, s.to - r)
     }
-    compare(x, r, to - r)
 }
 
 // The rows after the first.
@@ -74,11 +68,9 @@ fn fill(x: &[u8], t: &mut [u16])
         from: 1,
         to: 1,
     };
-    let mut r = 1;
-    while r < x.len() {
+    for r in 1..x.len() {
         s = step(x, t, r, s);
         t[r] = s.row as u16;
-        r += 1;
     }
 }
 
@@ -87,7 +79,7 @@ pub fn rows(x: &[u8], t: &mut [u16])
     requires { Room x.now t.old }
     ensures { t.new ≡ written (prefix_row x.now) (length x.now) t.old }
 {
-    if x.len() == 0 {
+    if x.is_empty() {
         return;
     }
     t[0] = x.len() as u16;

@@ -1,13 +1,6 @@
 -- What each way through the weighed list's functions comes to, on plain lists and numbers. Assumes nothing.
-use mathlib.Core.Path.{◌≡◌, refl, sym, ap, ◌∙◌}
-use mathlib.Core.List.{List, [], ◌∷◌, ◌++◌, append_assoc, append-nil}
-use mathlib.Core.Logic.{◌⊎◌, inl, inr, ⊎_elim}
-use Prim.Native.Nat.{ℕ, ◌+◌, ◌-◌, ◌≤◌, ◌<◌}
-use native.Mathlib.Numerals.{add-one}
-use native.Mathlib.Omega.{arith}
+use Rattle.std.proofs.Common.{◌≡◌, refl, sym, ap, ◌∙◌, List, [], ◌∷◌, ◌++◌, append_assoc, append-nil, ◌⊎◌, inl, inr, ⊎_elim, ℕ, ◌+◌, ◌-◌, ◌≤◌, ◌<◌, add-one, arith, eqb, length, get_or, set, replicate, length-append}
 use lib.Count.{count_leading_zeros, leading_top}
-use lib.Dec.{eqb}
-use lib.ListN.{length, get_or, set, replicate, length-append}
 use Rattle.words.specs.Words.{border, cover, weighed, used, limit}
 use Rattle.words.specs.Tables.{border_row, cover_row}
 use Rattle.words.specs.Refusals.{longest}
@@ -21,13 +14,10 @@ use Rattle.words.proofs.Weighs.{Weighs, weighs_outer, heaviest, heaviest_weighs,
 -- ---- `exponent`
 
 module _ (i : ℕ) (h : 0 < i) (s : i ≤ longest) where
-  pub zeros_most : count_leading_zeros 32 i ≤ 31
-  zeros_most = let t = leading_top 32 i h (omega arith) in omega (arith, t.1)
-
-  pub exponent_limit : 31 - count_leading_zeros 32 i ≡ limit i
+  pub exponent_limit : 63 - count_leading_zeros 64 i ≡ limit i
   exponent_limit =
-      let t = leading_top 32 i h (omega arith) in
-      let e : 31 - count_leading_zeros 32 i ≡ t.0 = omega (arith, t.1) in
+      let t = leading_top 64 i h (omega arith) in
+      let e : 63 - count_leading_zeros 64 i ≡ t.0 = omega (arith, t.1) in
       e ∙ sym (limit_is t.0 i t.2 (rw add-one t.3))
 
 -- ---- `heaviest`: the longest weighed border of i is that of q
@@ -45,8 +35,8 @@ module _ {x s t : List ℕ} {i q : ℕ} (d : Down x i q) (hb : Holds border_row 
     is_border_lem : b ≡ border eqb x q
     is_border_lem = e ∙ hb.rows (q - 1) (omega (arith, d.some, d.within)) ∙ ap (border eqb x) (omega (arith, d.some))
 
-    pub down_empty : b ≡ 0 → 0 ≡ heaviest x i
-    down_empty z = sym (d.same ∙ heaviest_empty x q d.some (sym is_border_lem ∙ z))
+    pub down_empty : b ≡ 0 → b ≡ heaviest x i
+    down_empty z = z ∙ sym (d.same ∙ heaviest_empty x q d.some (sym is_border_lem ∙ z))
 
     module _ (nz : b ≡ 0 → ⊥) where
       pub down_falls : b < q

@@ -1,4 +1,4 @@
-// Floor 2: the weighed list of a log, from its border and its cover table.
+// Floor 2: the weighed list of a log, from its border and its cover table. Why the log and its tables are no struct, `bases` says.
 #![tactic(auto)]
 
 ghost use Rattle.std.specs.Prelude.{◌≡◌, ◌≤◌, ◌<◌, eqb, length};
@@ -10,11 +10,12 @@ ghost use Rattle.words.proofs.Tables.{Holds};
 ghost use Rattle.words.proofs.Weighs as Weighs;
 
 // The exponent of the greatest power of two not above i.
+#[tactic(auto, using(crate::proofs::Steps::exponent_limit))]
 fn exponent(i: usize) -> u16
     requires { (0 < i) × (i ≤ longest) }
     ensures { result ≡ Words.limit i }
 {
-    (31 - u32::leading_zeros(i as u32)) as u16
+    (usize::BITS - 1 - i.leading_zeros()) as u16
 }
 
 // The longest weighed border of the first i readings: down the chain of their borders, the first that has no proper cover.
@@ -24,11 +25,8 @@ fn heaviest(x: &[u8], border: &[u16], cover: &[u16], i: usize) -> usize
 {
     let mut q = i;
     loop {
-        let b = words::wide(border[q - 1]);
-        if b == 0 {
-            return 0;
-        }
-        if cover[b - 1] == 0 {
+        let b = usize::from(border[q - 1]);
+        if b == 0 || cover[b - 1] == 0 {
             return b;
         }
         q = b;
@@ -42,7 +40,8 @@ pub fn list(x: &[u8], border: &[u16], cover: &[u16]) -> words::Weighed
 {
     let limit = exponent(x.len());
     let mut lens = [0u16; words::WEIGHED_PLACES];
-    let mut k: usize = 0;
+    // The chain ends by itself: k counts what it wrote.
+    let mut k = 0;
     let mut w = heaviest(x, border, cover, x.len());
     while w != 0 {
         lens[k] = w as u16;
@@ -52,7 +51,7 @@ pub fn list(x: &[u8], border: &[u16], cover: &[u16]) -> words::Weighed
     words::Weighed {
         number: 0,
         used: k as u16,
-        limit: limit,
-        lens: lens,
+        limit,
+        lens,
     }
 }

@@ -1,11 +1,7 @@
--- `ceilings::count` meets its contract. The loop's invariant is `Counted`, its measure what is left of x. Assumes nothing.
-use Prim.Native.Nat.{◌-◌}
-use lib.ListN.{length}
-use Rattle.ceilings.proofs.Steps.{Counted}
+-- `ceilings::count` meets its contract. The loop's invariant: the readings so far are counted. Assumes nothing.
+use Rattle.std.proofs.Common.{◌≡◌, ◌==◌, count_by, take}
+use Rattle.words.specs.PlantFile.{ceiling_symbol}
 use Rattle.ceilings.proofs.count.Given as goal
 
-abbrev pub invariant-loop-p : goal.invariant-loop-p
-invariant-loop-p l = Counted l.x l.p l.count
-
-abbrev pub decreases-loop-p : goal.decreases-loop-p
-decreases-loop-p l = length l.x - l.p
+abbrev pub invariant-loop-symbol : goal.invariant-loop-symbol
+invariant-loop-symbol l = l.count ≡ count_by (λ s. s == ceiling_symbol) (take l.symbol-index l.x)

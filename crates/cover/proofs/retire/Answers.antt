@@ -1,20 +1,17 @@
--- `cover::retire` meets its contract. The loop's invariant is `Falling`, and that up and kids keep their lengths; its measure is q. Assumes nothing.
-use borrow.Author.Rules.{rules}
+-- `cover::retire` meets its contract. The loop's invariant is `Falling`, its measure q. Assumes nothing.
+use Rattle.std.proofs.Common.{rules}
 use Rattle.cover.proofs.Tree.{fall_start, fall_done}
-use Rattle.cover.proofs.Steps.{retire_some, retire_row, retire_falls, retire_inside, retire_scaled, retire_counted, retire_next}
+use Rattle.cover.proofs.Steps.{retire_some, retire_row, retire_falls, retire_inside, retire_counted, retire_next}
 use Rattle.cover.proofs.retire.Goals as goal
 
 pub loop-kids-init : goal.loop-kids-init
-loop-kids-init c = search (rules, fall_start)
+loop-kids-init c = search fall_start
 
 pub overflow_sub-c : goal.overflow_sub-c
 overflow_sub-c c = search retire_some
 
 pub bounds-t-q : goal.bounds-t-q
 bounds-t-q c = search retire_row
-
-pub offset_bounds-kids-q-in-loop-kids : goal.offset_bounds-kids-q-in-loop-kids
-offset_bounds-kids-q-in-loop-kids c = search retire_scaled
 
 pub bounds-kids-q-in-loop-kids : goal.bounds-kids-q-in-loop-kids
 bounds-kids-q-in-loop-kids c = search retire_inside

@@ -1,5 +1,5 @@
 -- `judged::covered_by` meets its contract. Assumes nothing.
-use borrow.Author.Rules.{rules}
+use Rattle.std.proofs.Common.{rules}
 use Rattle.words.specs.Tables.{prefix_row}
 use Rattle.bases.proofs.Work.{work_holds}
 use Rattle.judged.proofs.covered_by.Goals as goal

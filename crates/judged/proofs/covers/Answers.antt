@@ -1,5 +1,5 @@
 -- `judged::covers` meets its contract. Assumes nothing.
-use borrow.Author.Rules.{rules}
+use Rattle.std.proofs.Common.{rules}
 use Rattle.words.specs.Tables.{cover_row}
 use Rattle.bases.proofs.Work.{work_holds}
 use Rattle.judged.proofs.covers.Goals as goal

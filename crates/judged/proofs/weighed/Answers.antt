@@ -1,5 +1,5 @@
 -- `judged::weighed` meets its contract. Assumes nothing.
-use borrow.Author.Rules.{rules}
+use Rattle.std.proofs.Common.{rules}
 use Rattle.words.specs.Tables.{border_row, cover_row}
 use Rattle.bases.proofs.Work.{work_blank, work_holds}
 use Rattle.judged.proofs.weighed.Goals as goal

@@ -1,5 +1,5 @@
 -- `parts::breakdown` meets its contract. Assumes nothing.
-use borrow.Author.Rules.{rules}
+use Rattle.std.proofs.Common.{rules}
 use Rattle.parts.proofs.Steps.{deep_first, broken_whole}
 use Rattle.parts.proofs.breakdown.Goals as goal
 

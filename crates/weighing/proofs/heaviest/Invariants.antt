@@ -2,8 +2,8 @@
 use Rattle.weighing.proofs.Steps.{Down}
 use Rattle.weighing.proofs.heaviest.Given as goal
 
-abbrev pub invariant-loop-i : goal.invariant-loop-i
-invariant-loop-i l = Down l.x l.i l.q
+abbrev pub invariant-loop-q : goal.invariant-loop-q
+invariant-loop-q l = Down l.x l.i l.q
 
-abbrev pub decreases-loop-i : goal.decreases-loop-i
-decreases-loop-i l = l.q
+abbrev pub decreases-loop-q : goal.decreases-loop-q
+decreases-loop-q l = l.q
