@@ -25,7 +25,7 @@ use Rattle.repeats.proofs.Seeds.{repeats_reached}
 use Rattle.repeats.proofs.Starts.{start, start_none, start_lt, start_is, start_most, start_border, start_inner, reached_count}
 use Rattle.repeats.proofs.LeftSeeds.{Bare, seed_all}
 use Rattle.candidates.specs.declared.Seed.{Seed}
-use Rattle.candidates.specs.Candidates.{bare, bare_row, fall_row, Sown, Far, Ready, Taken}
+use Rattle.candidates.specs.Candidates.{bare, bare_row, fall_row, Made, Sown, Far, Ready, Taken}
 use Rattle.candidates.proofs.Bare.{bare_le, bare_bare, bare_most, bare_same, bare_some, bare_zero, bare_here, bare_before, fall_zero, fall_here, fall_before}
 
 -- ---- `bare_at`
@@ -95,21 +95,12 @@ module _ {x : List ℕ} {i q m : ℕ} (w : Ready x i q m) (some : 0 < i) where
   pub start_here : m < q → m ≡ start eqb x i q
   start_here l = sym (start_is eqb x i q m l w.border w.most)
 
-  pub start_in : i ≤ length x → {t : List ℕ} → Holds fall_row x t → m < length t
-  start_in h f = omega (arith, w.border.below, f.room)
+  pub start_in : i ≤ length x → {b t f : List ℕ} → Made x b t f → m < length f
+  start_in h d = omega (arith, w.border.below, d.falls.room)
 
-  pub start_falls : q ≤ m → i ≤ length x → {t : List ℕ} → Holds fall_row x t → (k : ℕ) → k ≡ get_or t m 0 → k ≡ start eqb x i q
-  start_falls l h f k e =
-      e ∙ f.rows m (omega (arith, w.border.below)) ∙ ap (start eqb x m) (w.next l) ∙ sym (start_inner x i m q w.border l)
-
--- ---- `taken`
-
-module _ (s : Seed) (q k m : ℕ) where
-  pub taken_yes : s.count ≤ k → Taken s q k m (record { len = q; count = k; start = m })
-  taken_yes h = inl (h, refl)
-
-  pub taken_no : k < s.count → Taken s q k m s
-  taken_no h = inr (h, refl)
+  pub start_falls : q ≤ m → i ≤ length x → {b t f : List ℕ} → Made x b t f → (k : ℕ) → k ≡ get_or f m 0 → k ≡ start eqb x i q
+  start_falls l h d k e =
+      e ∙ d.falls.rows m (omega (arith, w.border.below)) ∙ ap (start eqb x m) (w.next l) ∙ sym (start_inner x i m q w.border l)
 
 -- ---- `weighed`
 
@@ -159,12 +150,12 @@ pub record Walk (x : List ℕ) (i q m : ℕ) (s : Seed) : Type 0 where
   pub starts : s.start ≡ start eqb x i s.len
 
 module _ {x : List ℕ} {i far : ℕ} (f : Far x i far) (some : 0 < i) where
-  pub far_in : i ≤ length x → {t : List ℕ} → Holds bare_row x t → far < length t
-  far_in l h = ⊎_elim (λ z. omega (arith, z, h.room)) (λ r. omega (arith, r.proper, h.room)) f.is
+  pub far_in : i ≤ length x → {c t s : List ℕ} → Made x c t s → far < length t
+  far_in l h = ⊎_elim (λ z. omega (arith, z, h.bares.room)) (λ r. omega (arith, r.proper, h.bares.room)) f.is
 
-  module _ {b : ℕ} (eb : b ≡ border eqb x i) {t : List ℕ} (h : Holds bare_row x t) (l : i ≤ length x) (q : ℕ) (e : q ≡ get_or t far 0) where
+  module _ {b : ℕ} (eb : b ≡ border eqb x i) {c t s : List ℕ} (h : Made x c t s) (l : i ≤ length x) (q : ℕ) (e : q ≡ get_or t far 0) where
     is_first : q ≡ bare x far
-    is_first = e ∙ h.rows far (⊎_elim (λ z. omega (arith, z)) (λ r. omega (arith, r.proper)) f.is)
+    is_first = e ∙ h.bares.rows far (⊎_elim (λ z. omega (arith, z)) (λ r. omega (arith, r.proper)) f.is)
 
     border_far : b ≤ far
     border_far = ⊎_elim
@@ -181,16 +172,16 @@ module _ {x : List ℕ} {i far : ℕ} (f : Far x i far) (some : 0 < i) where
         f.is)
         (eq-zero-or-pos q)
 
-    pub walk_first : Walk x i q b (record { len = 0; count = 0; start = 0 })
-    walk_first = record {
+    pub walk_first : {s : Seed} → s.len ≡ 0 → s.count ≡ 0 → s.start ≡ 0 → Walk x i q b s
+    walk_first zl zk zm = record {
       ready = record {
         border = rw eb (border_border eqb x i some);
         most = λ k _ c. rw eb (border_most eqb x i k c);
         next = λ u. bare_same x b far (omega (arith, is_first)) border_far ∙ sym is_first;
       };
       next = first_next;
-      top = top_none (λ k r. omega (arith, r.0, is_first, bare_most x far k (f.most k r.2) r.1));
-      starts = sym (start_none eqb x i);
+      top = rw (zl, zk) (top_none (λ k r. omega (arith, r.0, is_first, bare_most x far k (f.most k r.2) r.1)));
+      starts = rw (zm, zl) (sym (start_none eqb x i));
     }
 
 module _ {x : List ℕ} {i q m : ℕ} {s : Seed} (w : Walk x i q m s) (nz : q ≡ 0 → ⊥) where
@@ -203,13 +194,13 @@ module _ {x : List ℕ} {i q m : ℕ} {s : Seed} (w : Walk x i q m s) (nz : q �
   pub walk_ready : Ready x i q m
   walk_ready = w.ready
 
-  module _ (u : i ≤ length x) {v : List ℕ} (hv : Holds bare_row x v) where
+  module _ (u : i ≤ length x) {b v f : List ℕ} (hv : Made x b v f) where
     pub in_next : q - 1 < length v
-    in_next = omega (arith, walk_bare.2.proper, hv.room)
+    in_next = omega (arith, walk_bare.2.proper, hv.bares.room)
 
     module _ (p : ℕ) (ep : p ≡ get_or v (q - 1) 0) where
       is_next : p ≡ bare x (q - 1)
-      is_next = ep ∙ hv.rows (q - 1) (omega (arith, walk_bare.2.proper))
+      is_next = ep ∙ hv.bares.rows (q - 1) (omega (arith, walk_bare.2.proper))
 
       pub walk_falls : p < q
       walk_falls = omega (arith, is_next, bare_le x (q - 1), walk_some)

@@ -21,5 +21,5 @@ offset_bounds-bare-r c = search (rules, in_bare)
 pub bounds-bare-r : goal.bounds-bare-r
 bounds-bare-r c = search in_bare
 
-pub returns : goal.returns
-returns c = search bare_no
+pub returns-else-cover-r-eq0 : goal.returns-else-cover-r-eq0
+returns-else-cover-r-eq0 c = search bare_no

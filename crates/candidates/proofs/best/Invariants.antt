@@ -3,7 +3,7 @@ use Rattle.candidates.proofs.Steps.{Walk}
 use Rattle.candidates.proofs.best.Given as goal
 
 abbrev pub invariant-loop-q : goal.invariant-loop-q
-invariant-loop-q l = Walk l.x l.i l.q l.m l.s
+invariant-loop-q l = Walk l.columns.x.now l.i l.q l.m l.s
 
 abbrev pub decreases-loop-q : goal.decreases-loop-q
 decreases-loop-q l = l.q

@@ -21,5 +21,5 @@ offset_bounds-fall-b c = search (rules, in_fall)
 pub bounds-fall-b : goal.bounds-fall-b
 bounds-fall-b c = search in_fall
 
-pub returns : goal.returns
-returns c = search fall_no
+pub returns-else-b-q : goal.returns-else-b-q
+returns-else-b-q c = search fall_no

@@ -1,4 +1,4 @@
--- `candidates::rows` meets its contract. The loop's invariant: both tables have their first r rows written; its measure is what is left of x. Assumes nothing.
+-- `candidates::rows` meets its contract. The loop's invariant: both tables have their first r rows written. Assumes nothing.
 use borrow.Author.Rules.{rules}
 use Rattle.words.proofs.Tables.{rows_none, rows_length, rows_inside, rows_filled, rows_more, rows_done}
 use Rattle.candidates.specs.Candidates.{bare_row, fall_row}

@@ -10,4 +10,4 @@ pub overflow_cast-held : goal.overflow_cast-held
 overflow_cast-held c = search tally_fits
 
 pub returns : goal.returns
-returns c = (tally_round c.requires.0 (search rules) _ _ c.wide-e.ensures c.wide-c.ensures _ c.grown-k.ensures, search tally_count)
+returns c = (tally_round c.requires.0 (search rules) _ _ c.from-e.ensures c.from-c.ensures _ c.grown-k.ensures, search tally_count)

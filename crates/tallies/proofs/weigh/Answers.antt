@@ -7,8 +7,8 @@ use Rattle.tallies.proofs.weigh.Goals as goal
 pub loop-w-init : goal.loop-w-init
 loop-w-init c = (search rules, search first_way, search rules, search rules)
 
-pub better-b-requires : goal.better-b-requires
-better-b-requires c = search way_few
+pub weigh-b-requires : goal.weigh-b-requires
+weigh-b-requires c = search way_few
 
 pub loop-w-smaller : goal.loop-w-smaller
 loop-w-smaller c = search next_falls
