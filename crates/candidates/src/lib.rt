@@ -1,12 +1,10 @@
 // Floor 2: the patterns that can be a left seed. Only those that have no proper cover can, and each is weighed with its longest start that ends the prefix.
 #![tactic(auto)]
 
-ghost use Rattle.std.specs.Prelude.{◌≡◌, ◌≤◌, ◌<◌, eqb, length};
+ghost use Rattle.std.specs.Prelude.{◌≡◌, ◌+◌, ◌<◌, eqb, length};
 ghost use Rattle.words.specs.Words as Words;
 ghost use Rattle.words.specs.Tables.{border_row, cover_row, written};
-ghost use Rattle.words.specs.Refusals as Refusals;
 ghost use Rattle.words.proofs.Tables.{Room, Holds, Filled};
-ghost use Rattle.tallies.specs.Tallies.{Tallies};
 ghost use Rattle.repeats.specs.Repeats.{reached};
 ghost use Rattle.repeats.proofs.Starts as Starts;
 ghost use Rattle.repeats.proofs.LeftSeeds.{Bare};
@@ -14,7 +12,7 @@ ghost use Rattle.candidates.specs.Candidates.{bare_row, fall_row, Sown, Far, Rea
 
 mod columns;
 
-pub use columns::Columns;
+pub use columns::{Columns, Row};
 
 // The left seed of a prefix: its length, the positions that it reaches, and its longest start that ends the prefix.
 #[derive(Clone, Copy, Default)]
@@ -82,44 +80,44 @@ pub fn rows(x: &[u8], border: &[u16], cover: &[u16], bare: &mut [u16], fall: &mu
     }
 }
 
-// The longest start of q that ends the first i readings, where m is that of the pattern before q.
-fn start_of(columns: &Columns, i: usize, m: usize, q: usize) -> usize
-    requires { Ready columns.now.x.now i q m × (0 < i) × (i ≤ length columns.now.x.now) × (0 < q) }
-    ensures { result ≡ Starts.start eqb columns.now.x.now i q }
+// The longest start of q that ends the row's prefix, where m is that of the pattern before q.
+fn start_of(row: &Row, m: usize, q: usize) -> usize
+    requires { Ready row.now.columns.x.now (row.now.j + 1) q m × (0 < q) }
+    ensures { result ≡ Starts.start eqb row.now.columns.x.now (row.now.j + 1) q }
 {
     if q <= m {
-        usize::from(columns.fall[m])
+        usize::from(row.columns.fall[m])
     } else {
         m
     }
 }
 
 // Weighs one pattern more, q, whose longest start is m. Where what it covers and all of the start are not enough, its last end is not asked.
-fn weighed(x: &[u8], last: &[u16], held: &[u16], i: usize, q: usize, m: usize, s: Seed) -> Seed
-    requires { Tallies x.now last.now held.now i × Bare x.now i 0 q × (m ≡ Starts.start eqb x.now i q) × (i ≤ length x.now) × (length x.now ≤ Refusals.longest) }
-    ensures { Taken s q (reached eqb x.now i q) m result }
+fn weighed(row: &Row, q: usize, m: usize, s: Seed) -> Seed
+    requires { Bare row.now.columns.x.now (row.now.j + 1) 0 q × (m ≡ Starts.start eqb row.now.columns.x.now (row.now.j + 1) q) }
+    ensures { Taken s q (reached eqb row.now.columns.x.now (row.now.j + 1) q) m result }
 {
-    let c = usize::from(held[q - 1]);
+    let c = usize::from(row.held[q - 1]);
     if c + m < s.count {
         return s;
     }
-    let k = tallies::grown(m, i, usize::from(last[q - 1]), c);
+    let k = tallies::grown(m, row.j + 1, usize::from(row.last[q - 1]), c);
     s.weigh(q, k, m)
 }
 
-// The left seed of the first i readings: every pattern without a proper cover that repeats, from the longest down. `far` is the longest prefix that
+// The left seed of the row's prefix: every pattern without a proper cover that repeats, from the longest down. `far` is the longest prefix that
 // repeats, b the border.
-pub fn best(columns: &Columns, last: &[u16], held: &[u16], i: usize, far: usize, b: usize) -> Seed
-    requires { Tallies columns.now.x.now last.now held.now i × Far columns.now.x.now i far × (b ≡ Words.border eqb columns.now.x.now i) × (0 < i) × (i ≤ length columns.now.x.now) }
-    ensures { Sown columns.now.x.now i result }
+pub fn best(row: &Row, far: usize, b: usize) -> Seed
+    requires { Far row.now.columns.x.now (row.now.j + 1) far × (b ≡ Words.border eqb row.now.columns.x.now (row.now.j + 1)) }
+    ensures { Sown row.now.columns.x.now (row.now.j + 1) result }
 {
     let mut s = Seed::default();
     let mut m = b;
-    let mut q = usize::from(columns.bare[far]);
+    let mut q = usize::from(row.columns.bare[far]);
     while q != 0 {
-        m = start_of(columns, i, m, q);
-        s = weighed(columns.x, last, held, i, q, m, s);
-        q = usize::from(columns.bare[q - 1]);
+        m = start_of(row, m, q);
+        s = weighed(row, q, m, s);
+        q = usize::from(row.columns.bare[q - 1]);
     }
     s
 }

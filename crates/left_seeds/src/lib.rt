@@ -11,7 +11,7 @@ ghost use Rattle.repeats.specs.Repeats.{left_seed_row, seed_count_row};
 ghost use Rattle.candidates.specs.Candidates.{Made};
 ghost use Rattle.standings.specs.Standings.{Stands};
 
-use candidates::Columns;
+use candidates::{Columns, Row};
 use standings::Standing;
 
 // One row: its weighed borders are tallied, and its entry in their chain is laid over its cover.
@@ -30,7 +30,13 @@ fn row(
 {
     let b = usize::from(columns.border[j]);
     let p = tallies::row(columns.x, chain, last, held, j, b, 0);
-    standings::stand(columns, last, held, j, was, p)
+    let row = Row {
+        columns: *columns,
+        last,
+        held,
+        j,
+    };
+    standings::stand(&row, was, p)
 }
 
 // The rows, from the columns that every row reads and the cover table, with which `chain` comes, with room to work in.

@@ -3,29 +3,29 @@ use borrow.Author.Rules.{rules}
 use Rattle.candidates.proofs.Steps.{far_in, walk_first, walk_some, walk_ready, walk_bare, in_next, walk_falls, walk_next, walk_done}
 use Rattle.candidates.proofs.best.Goals as goal
 
-pub offset_bounds-columns-far : goal.offset_bounds-columns-far
-offset_bounds-columns-far c = search (rules, far_in)
+pub offset_bounds-row-far : goal.offset_bounds-row-far
+offset_bounds-row-far c = search (rules, far_in)
 
-pub bounds-columns-far : goal.bounds-columns-far
-bounds-columns-far c = search far_in
+pub bounds-row-far : goal.bounds-row-far
+bounds-row-far c = search far_in
 
 pub loop-q-init : goal.loop-q-init
 loop-q-init c = search walk_first
 
 pub start_of-m-requires : goal.start_of-m-requires
-start_of-m-requires c = (search walk_ready, search rules, search rules, search walk_some)
+start_of-m-requires c = (search walk_ready, search walk_some)
 
 pub weighed-s-requires : goal.weighed-s-requires
-weighed-s-requires c = (search rules, search walk_bare, search rules, search rules, c.args.columns.now.made.most)
+weighed-s-requires c = (search walk_bare, search rules)
 
 pub overflow_sub-q : goal.overflow_sub-q
 overflow_sub-q c = search (rules, walk_some)
 
-pub offset_bounds-columns-q : goal.offset_bounds-columns-q
-offset_bounds-columns-q c = search (rules, in_next)
+pub offset_bounds-row-q : goal.offset_bounds-row-q
+offset_bounds-row-q c = search (rules, in_next)
 
-pub bounds-columns-q : goal.bounds-columns-q
-bounds-columns-q c = search in_next
+pub bounds-row-q : goal.bounds-row-q
+bounds-row-q c = search in_next
 
 pub loop-q-smaller : goal.loop-q-smaller
 loop-q-smaller c = search walk_falls

@@ -6,11 +6,11 @@ use Rattle.standings.proofs.ending.Goals as goal
 pub overflow_sub-b : goal.overflow_sub-b
 overflow_sub-b c = search (rules, ends_some)
 
-pub offset_bounds-columns-b : goal.offset_bounds-columns-b
-offset_bounds-columns-b c = search (rules, ends_within)
+pub offset_bounds-row-b : goal.offset_bounds-row-b
+offset_bounds-row-b c = search (rules, ends_within)
 
-pub bounds-columns-b : goal.bounds-columns-b
-bounds-columns-b c = search ends_within
+pub bounds-row-b : goal.bounds-row-b
+bounds-row-b c = search ends_within
 
 pub returns : goal.returns
 returns c = search ends_sown

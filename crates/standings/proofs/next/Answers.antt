@@ -2,8 +2,8 @@
 use Rattle.standings.proofs.Steps.{goes_inside, goes, count_fits, ends}
 use Rattle.standings.proofs.next.Goals as goal
 
-pub bounds-columns-s : goal.bounds-columns-s
-bounds-columns-s c = search goes_inside
+pub bounds-x-s : goal.bounds-x-s
+bounds-x-s c = search goes_inside
 
 pub on-requires : goal.on-requires
 on-requires c = search goes
