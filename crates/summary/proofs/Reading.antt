@@ -15,8 +15,8 @@ use Rattle.summary.specs.declared.Outline.{Outline}
 use Rattle.summary.specs.Whole.{outline_of, summary_of}
 
 pub summary_is : {x best count : List ℕ} {o : Outline} → 0 < length x → Holds best_row x best → Holds count_row x count → o ≡ outline_of x
-    → record { normal = o.normal; best = get_or best (length x - 1) 0; count = get_or count (length x - 1) 0; covers = o.covers; weighed = o.weighed } ≡ summary_of x
-unfolding summary_of outline_of
+    → record { outline = o; best = get_or best (length x - 1) 0; count = get_or count (length x - 1) 0 } ≡ summary_of x
+unfolding summary_of
 summary_is {x} some b c o =
     let last : length x - 1 + 1 ≡ length x = omega arith in
     rw (o, b.rows (length x - 1) (omega arith), c.rows (length x - 1) (omega arith), last)
