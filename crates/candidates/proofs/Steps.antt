@@ -1,14 +1,5 @@
 -- What each way through the functions of the candidates comes to, on plain lists and numbers. Assumes nothing.
-use mathlib.Core.Path.{◌≡◌, refl, sym, ap, ◌∙◌}
-use mathlib.Core.List.{List}
-use mathlib.Core.Logic.{◌⊎◌, inl, inr, ⊎_elim}
-use Prim.Native.Nat.{ℕ, ◌+◌, ◌-◌, ◌≤◌, ◌<◌, min}
-use native.Mathlib.Nat.{eq-or-lt_of_le, eq-zero-or-pos}
-use native.Mathlib.Omega.{arith}
-use lib.Dec.{eqb}
-use lib.ListN.{length, get_or}
-use mir.Syntax.{w16, w64}
-use mir.Val.{Fits}
+use Rattle.std.proofs.Common.{◌≡◌, refl, sym, ap, ◌∙◌, List, ◌⊎◌, inl, inr, ⊎_elim, ℕ, ◌+◌, ◌-◌, ◌≤◌, ◌<◌, min, eq-or-lt_of_le, eq-zero-or-pos, arith, eqb, length, get_or, w16, w64, Fits}
 use Rattle.words.specs.Words.{border, cover}
 use Rattle.words.specs.Tables.{border_row, cover_row}
 use Rattle.words.specs.Refusals.{longest}

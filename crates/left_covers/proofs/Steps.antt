@@ -1,9 +1,6 @@
 -- What each turn of the loop comes to, on plain lists and numbers. Assumes nothing.
-use Rattle.std.proofs.Common.{◌≡◌, refl, ◌∙◌, List, ⊎_elim, ℕ, ◌+◌, ◌≤◌, ◌<◌, arith, length, get_or, set}
+use Rattle.std.proofs.Common.{◌≡◌, refl, ◌∙◌, List, ⊎_elim, ℕ, ◌+◌, ◌≤◌, ◌<◌, arith, length, get_or, set, eqb, w16, Fits}
 use Rattle.std.specs.Ordering.{ord_max}
-use lib.Dec.{eqb}
-use mir.Syntax.{w16}
-use mir.Val.{Fits}
 use Rattle.words.specs.Words.{covered}
 use Rattle.words.specs.Tables.{best_row, count_row}
 use Rattle.words.specs.Refusals.{longest}

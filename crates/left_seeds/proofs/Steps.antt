@@ -1,13 +1,5 @@
 -- What each row and the columns come to, on plain lists and numbers. Assumes nothing.
-use mathlib.Core.Path.{◌≡◌}
-use mathlib.Core.List.{List}
-use mathlib.Core.Logic.{⊎_elim}
-use Prim.Native.Nat.{ℕ, ◌+◌, ◌≤◌, ◌<◌}
-use native.Mathlib.Omega.{arith}
-use lib.Dec.{eqb}
-use lib.ListN.{length}
-use mir.Syntax.{w16}
-use mir.Val.{Fits}
+use Rattle.std.proofs.Common.{◌≡◌, List, ⊎_elim, ℕ, ◌+◌, ◌≤◌, ◌<◌, arith, eqb, length, w16, Fits}
 use Rattle.words.specs.Tables.{Column, border_row, written}
 use Rattle.words.specs.Refusals.{longest}
 use Rattle.words.proofs.Tables.{Room, Holds, written_holds}

@@ -27,7 +27,14 @@ impl Ord for Found {
     ghost matches_eq = { Prim.search (comparing, rules) };
 
     fn cmp(&self, other: &Found) -> Ordering {
-        self.count.cmp(&other.count).then(other.len.cmp(&self.len))
+        // The counts mostly decide: `then` would compare the lengths each time.
+        if self.count < other.count {
+            Ordering::Less
+        } else if other.count < self.count {
+            Ordering::Greater
+        } else {
+            other.len.cmp(&self.len)
+        }
     }
 }
 

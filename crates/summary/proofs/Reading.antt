@@ -1,10 +1,5 @@
 -- What the tables say of the whole log is its summary: their last rows, and the lists. Assumes nothing.
-use mathlib.Core.Path.{◌≡◌}
-use mathlib.Core.List.{List}
-use Prim.Native.Nat.{ℕ, ◌+◌, ◌-◌, ◌<◌}
-use native.Mathlib.Omega.{arith}
-use lib.Dec.{eqb}
-use lib.ListN.{length, get_or}
+use Rattle.std.proofs.Common.{◌≡◌, List, ℕ, ◌+◌, ◌-◌, ◌<◌, arith, eqb, length, get_or}
 use Rattle.words.specs.declared.Part.{Part}
 use Rattle.words.specs.declared.Weighed.{Weighed}
 use Rattle.words.specs.Words as Words

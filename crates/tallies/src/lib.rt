@@ -40,6 +40,8 @@ pub fn grown(w: usize, i: usize, e: usize, k: usize) -> usize
     k + w.min(i - e)
 }
 
+// The log, its last ends and its counts stay parameters from here on: a type that holds `Tallies` would be broken, a `Round`, in every step of a row.
+
 // The new prefix, of length j + 1, has no proper cover: it ends at its own end and covers all of itself.
 fn enter(x: &[u8], last: &mut [u16], held: &mut [u16], j: usize)
     requires { Tallies x.now last.old held.old j × (j < length x.now) × (length x.now ≤ Refusals.longest) × (cover_row x.now j ≡ 0) }

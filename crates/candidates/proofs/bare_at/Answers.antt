@@ -1,5 +1,5 @@
 -- `candidates::bare_at` meets its contract. Assumes nothing.
-use borrow.Author.Rules.{rules}
+use Rattle.std.proofs.Common.{rules}
 use Rattle.candidates.proofs.Steps.{bare_first, in_cover, in_bare, bare_yes, bare_no}
 use Rattle.candidates.proofs.bare_at.Goals as goal
 

@@ -1,5 +1,5 @@
 -- `candidates::best` meets its contract. The loop's invariant is `Walk`, its measure q. Assumes nothing.
-use borrow.Author.Rules.{rules}
+use Rattle.std.proofs.Common.{rules}
 use Rattle.candidates.proofs.Steps.{far_in, walk_first, walk_some, walk_ready, walk_bare, in_next, walk_falls, walk_next, walk_done}
 use Rattle.candidates.proofs.best.Goals as goal
 

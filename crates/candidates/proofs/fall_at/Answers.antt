@@ -1,5 +1,5 @@
 -- `candidates::fall_at` meets its contract. Assumes nothing.
-use borrow.Author.Rules.{rules}
+use Rattle.std.proofs.Common.{rules}
 use Rattle.candidates.proofs.Steps.{fall_first, in_border, in_fall, fall_yes, fall_no}
 use Rattle.candidates.proofs.fall_at.Goals as goal
 

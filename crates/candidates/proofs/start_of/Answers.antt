@@ -1,5 +1,5 @@
 -- `candidates::start_of` meets its contract. Assumes nothing.
-use borrow.Author.Rules.{rules}
+use Rattle.std.proofs.Common.{rules}
 use Rattle.candidates.proofs.Steps.{start_here, start_in, start_falls}
 use Rattle.candidates.proofs.start_of.Goals as goal
 

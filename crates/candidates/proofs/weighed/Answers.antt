@@ -1,5 +1,5 @@
 -- `candidates::weighed` meets its contract. Assumes nothing.
-use borrow.Author.Rules.{rules}
+use Rattle.std.proofs.Common.{rules}
 use Rattle.candidates.proofs.Steps.{in_last, in_held, weighed_fits, weighed_small, weighed_none, weighed_early, weighed_taken}
 use Rattle.candidates.proofs.weighed.Goals as goal
 

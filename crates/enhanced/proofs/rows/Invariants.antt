@@ -1,7 +1,6 @@
 -- `enhanced::rows` meets its contract. The loop's invariant: below j the rows of `best`, `count` and `chain` are Best, Count and the chain, from j on those of
 -- `best` are still borders and those of `chain` covers; last and held have the tallies of the first j prefixes, and sum is the total of the first j rows. Assumes nothing.
-use mathlib.Core.Path.{◌≡◌}
-use lib.ListN.{length}
+use Rattle.std.proofs.Common.{◌≡◌, length}
 use Rattle.words.specs.Search as Search
 use Rattle.words.specs.Tables.{best_row, count_row}
 use Rattle.words.proofs.Tables.{Rows}

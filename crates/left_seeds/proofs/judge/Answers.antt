@@ -1,6 +1,6 @@
 -- `left_seeds::judge` meets its contract. The loop's invariant: below j the rows of both tables are written and those of `chain` are the
 -- chain's, from j on those of `chain` are still covers; last and held have the tallies of the first j prefixes, and s is how the first j readings stand. Assumes nothing.
-use borrow.Author.Rules.{rules}
+use Rattle.std.proofs.Common.{rules}
 use Rattle.words.proofs.Tables.{rows_none, rows_length, rows_inside, rows_filled, rows_more, rows_done}
 use Rattle.tallies.proofs.Steps.{first_tallies, still_cover, chain_more}
 use Rattle.repeats.specs.Repeats.{left_seed_row, seed_count_row}

@@ -1,8 +1,6 @@
 -- `left_seeds::judge` meets its contract. The loop's invariant: below j the rows of both tables are written and those of `chain` are the
 -- chain's, from j on those of `chain` are still covers; last and held have the tallies of the first j prefixes, and s is how the first j readings stand. Assumes nothing.
-use mathlib.Core.Path.{◌≡◌}
-use Prim.Native.Nat.{◌≤◌}
-use lib.ListN.{length}
+use Rattle.std.proofs.Common.{◌≡◌, ◌≤◌, length}
 use Rattle.words.specs.Refusals.{longest}
 use Rattle.words.proofs.Tables.{Rows}
 use Rattle.words.proofs.Weighs.{heaviest_row}

@@ -1,5 +1,5 @@
 -- `standings::ending` meets its contract. Assumes nothing.
-use borrow.Author.Rules.{rules}
+use Rattle.std.proofs.Common.{rules}
 use Rattle.standings.proofs.Steps.{ends_some, ends_within, ends_sown}
 use Rattle.standings.proofs.ending.Goals as goal
 

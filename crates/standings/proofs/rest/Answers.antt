@@ -1,5 +1,5 @@
 -- `standings::rest` meets its contract. Assumes nothing.
-use borrow.Author.Rules.{rules}
+use Rattle.std.proofs.Common.{rules}
 use Rattle.standings.proofs.Steps.{border_in, is_border_lem, rests_in, rests_fits, left_fits, rests_sown}
 use Rattle.standings.proofs.rest.Goals as goal
 

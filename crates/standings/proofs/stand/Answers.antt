@@ -1,5 +1,5 @@
 -- `standings::stand` meets its contract. Assumes nothing.
-use borrow.Author.Rules.{rules}
+use Rattle.std.proofs.Common.{rules}
 use Rattle.standings.proofs.Steps.{ended, stand_in, turns, stands_next}
 use Rattle.standings.proofs.stand.Goals as goal
 

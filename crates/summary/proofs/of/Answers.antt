@@ -1,5 +1,5 @@
 -- `summary::of` meets its contract. Assumes nothing.
-use borrow.Author.Rules.{rules}
+use Rattle.std.proofs.Common.{rules}
 use Rattle.words.specs.Tables.{border_row, cover_row}
 use Rattle.bases.proofs.Work.{work_blank, work_holds}
 use Rattle.summary.proofs.of.Goals as goal

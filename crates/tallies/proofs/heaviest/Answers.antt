@@ -1,5 +1,5 @@
 -- `tallies::heaviest` meets its contract. Assumes nothing.
-use borrow.Author.Rules.{rules}
+use Rattle.std.proofs.Common.{rules}
 use Rattle.tallies.proofs.Steps.{in_last, in_chain, flagged_border, covered_border}
 use Rattle.tallies.proofs.heaviest.Goals as goal
 

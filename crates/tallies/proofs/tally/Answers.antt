@@ -1,5 +1,5 @@
 -- `tallies::tally` meets its contract. Assumes nothing.
-use borrow.Author.Rules.{rules}
+use Rattle.std.proofs.Common.{rules}
 use Rattle.tallies.proofs.Steps.{tally_early, tally_small, tally_count, tally_fits, tally_round}
 use Rattle.tallies.proofs.tally.Goals as goal
 
