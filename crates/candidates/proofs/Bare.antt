@@ -1,13 +1,5 @@
 -- The lengths that have no proper cover, and the start of the next of them. Assumes nothing.
-use mathlib.Core.Bool.{Bool}
-use mathlib.Core.Path.{◌≡◌, refl, sym, ap, ◌∙◌}
-use mathlib.Core.List.{List}
-use mathlib.Core.Logic.{⊎_elim}
-use Prim.Native.Nat.{ℕ, suc, ◌-◌, ◌≤◌, ◌<◌}
-use native.Mathlib.Nat.{le_antisymm, eq-or-lt_of_le}
-use native.Mathlib.Omega.{arith}
-use lib.Dec.{eqb}
-use borrow.Author.Tests.{eqb-true, eq-eqb}
+use Rattle.std.proofs.Common.{Bool, ◌≡◌, refl, sym, ap, ◌∙◌, List, ⊎_elim, ℕ, suc, ◌-◌, ◌≤◌, ◌<◌, le_antisymm, eq-or-lt_of_le, arith, eqb, eqb-true, eq-eqb}
 use Rattle.words.specs.Search.{greatest}
 use Rattle.words.specs.Words.{border, cover}
 use Rattle.words.proofs.Search.{greatest_lt, greatest_passes, greatest_most}

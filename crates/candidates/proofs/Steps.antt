@@ -1,14 +1,5 @@
 -- What each way through the functions of the candidates comes to, on plain lists and numbers. Assumes nothing.
-use mathlib.Core.Path.{◌≡◌, refl, sym, ap, ◌∙◌}
-use mathlib.Core.List.{List}
-use mathlib.Core.Logic.{◌⊎◌, inl, inr, ⊎_elim}
-use Prim.Native.Nat.{ℕ, ◌+◌, ◌-◌, ◌≤◌, ◌<◌, min}
-use native.Mathlib.Nat.{eq-or-lt_of_le, eq-zero-or-pos}
-use native.Mathlib.Omega.{arith}
-use lib.Dec.{eqb}
-use lib.ListN.{length, get_or}
-use mir.Syntax.{w16, w64}
-use mir.Val.{Fits}
+use Rattle.std.proofs.Common.{◌≡◌, refl, sym, ap, ◌∙◌, List, ◌⊎◌, inl, inr, ⊎_elim, ℕ, ◌+◌, ◌-◌, ◌≤◌, ◌<◌, min, eq-or-lt_of_le, eq-zero-or-pos, arith, eqb, length, get_or, w16, w64, Fits}
 use Rattle.words.specs.Words.{border, cover}
 use Rattle.words.specs.Tables.{border_row, cover_row}
 use Rattle.words.specs.Refusals.{longest}
@@ -25,7 +16,7 @@ use Rattle.repeats.proofs.Seeds.{repeats_reached}
 use Rattle.repeats.proofs.Starts.{start, start_none, start_lt, start_is, start_most, start_border, start_inner, reached_count}
 use Rattle.repeats.proofs.LeftSeeds.{Bare, seed_all}
 use Rattle.candidates.specs.declared.Seed.{Seed}
-use Rattle.candidates.specs.Candidates.{bare, bare_row, fall_row, Sown, Far, Ready, Taken}
+use Rattle.candidates.specs.Candidates.{bare, bare_row, fall_row, Made, Sown, Far, Ready, Taken}
 use Rattle.candidates.proofs.Bare.{bare_le, bare_bare, bare_most, bare_same, bare_some, bare_zero, bare_here, bare_before, fall_zero, fall_here, fall_before}
 
 -- ---- `bare_at`
@@ -91,63 +82,56 @@ module _ (x : List ℕ) (r : ℕ) (h : r < length x) (s : length x ≤ longest) 
 
 -- ---- `start_of`
 
-module _ {x : List ℕ} {i q m : ℕ} (w : Ready x i q m) (some : 0 < i) where
-  pub start_here : m < q → m ≡ start eqb x i q
-  start_here l = sym (start_is eqb x i q m l w.border w.most)
+module _ {x : List ℕ} {j q m : ℕ} (u : j < length x) (w : Ready x (j + 1) q m) where
+  pub start_here : m < q → m ≡ start eqb x (j + 1) q
+  start_here l = sym (start_is eqb x (j + 1) q m l w.border w.most)
 
-  pub start_in : i ≤ length x → {t : List ℕ} → Holds fall_row x t → m < length t
-  start_in h f = omega (arith, w.border.below, f.room)
+  module _ {b t f : List ℕ} (d : Made x b t f) where
+    pub start_in : m < length f
+    start_in = omega (arith, w.border.below, d.falls.room)
 
-  pub start_falls : q ≤ m → i ≤ length x → {t : List ℕ} → Holds fall_row x t → (k : ℕ) → k ≡ get_or t m 0 → k ≡ start eqb x i q
-  start_falls l h f k e =
-      e ∙ f.rows m (omega (arith, w.border.below)) ∙ ap (start eqb x m) (w.next l) ∙ sym (start_inner x i m q w.border l)
-
--- ---- `taken`
-
-module _ (s : Seed) (q k m : ℕ) where
-  pub taken_yes : s.count ≤ k → Taken s q k m (record { len = q; count = k; start = m })
-  taken_yes h = inl (h, refl)
-
-  pub taken_no : k < s.count → Taken s q k m s
-  taken_no h = inr (h, refl)
+    pub start_falls : q ≤ m → (k : ℕ) → k ≡ get_or f m 0 → k ≡ start eqb x (j + 1) q
+    start_falls l k e =
+        e ∙ d.falls.rows m (omega (arith, w.border.below)) ∙ ap (start eqb x m) (w.next l) ∙ sym (start_inner x (j + 1) m q w.border l)
 
 -- ---- `weighed`
 
-module _ {x l h : List ℕ} {i q : ℕ} (t : Tallies x l h i) (b : Bare x i 0 q) (u : i ≤ length x) where
+module _ {x l h : List ℕ} {j q : ℕ} (y : Tallies x l h (j + 1)) (b : Bare x (j + 1) 0 q) (u : j < length x) where
   pub in_held : q - 1 < length h
-  in_held = omega (arith, b.2.proper, t.holds)
+  in_held = omega (arith, b.2.proper, y.holds)
 
   pub in_last : q - 1 < length l
-  in_last = omega (arith, b.2.proper, t.lasts)
+  in_last = omega (arith, b.2.proper, y.lasts)
 
-  tally : Tally x q i (get_or l (q - 1) 0) (get_or h (q - 1) 0)
-  tally = t.each q b.0 (omega (arith, b.2.proper)) b.1
+  tally : Tally x q (j + 1) (get_or l (q - 1) 0) (get_or h (q - 1) 0)
+  tally = y.each q b.0 (omega (arith, b.2.proper)) b.1
 
-  is_reached : reached eqb x i q ≡ get_or h (q - 1) 0 + min (start eqb x i q) (i - get_or l (q - 1) 0)
+  is_reached : reached eqb x (j + 1) q ≡ get_or h (q - 1) 0 + min (start eqb x (j + 1) q) (j + 1 - get_or l (q - 1) 0)
   is_reached =
       let e : ℕ = get_or l (q - 1) 0 in
-      let stays = covered_stays eqb x q e i tally.within tally.last in
-      let all = reached_count eqb x i q e b.0 tally.from tally.within tally.occurs tally.last in
+      let stays = covered_stays eqb x q e (j + 1) tally.within tally.last in
+      let all = reached_count eqb x (j + 1) q e b.0 tally.from tally.within tally.occurs tally.last in
       omega (arith, tally.counts)
 
-  module _ (c : ℕ) (ec : c ≡ get_or h (q - 1) 0) (m : ℕ) (em : m ≡ start eqb x i q) where
-    pub weighed_fits : length x ≤ longest → Fits w64 (c + m)
-    weighed_fits v = omega (arith, ec, em, tally.counts, tally.within, covered_le eqb x (get_or l (q - 1) 0) q, start_lt eqb x i q b.0, b.2.proper)
+  module _ (c : ℕ) (ec : c ≡ get_or h (q - 1) 0) (m : ℕ) (em : m ≡ start eqb x (j + 1) q) where
+    module _ {a t f : List ℕ} (d : Made x a t f) where
+      pub weighed_fits : Fits w64 (c + m)
+      weighed_fits = omega (arith, ec, em, tally.counts, tally.within, covered_le eqb x (get_or l (q - 1) 0) q, start_lt eqb x (j + 1) q b.0, b.2.proper, d.most)
 
-    pub weighed_small : length x ≤ longest → c + i ≤ 65536
-    weighed_small v = omega (arith, ec, tally.counts, tally.within, covered_le eqb x (get_or l (q - 1) 0) q)
+      pub weighed_small : c + (j + 1) ≤ 65536
+      weighed_small = omega (arith, ec, tally.counts, tally.within, covered_le eqb x (get_or l (q - 1) 0) q, d.most)
 
     module _ (s : Seed) where
-      pub weighed_none : c + m < s.count → Taken s q (reached eqb x i q) m s
-      weighed_none h = inr (omega (arith, is_reached, ec, em), refl)
+      pub weighed_none : c + m < s.count → Taken s q (reached eqb x (j + 1) q) m s
+      weighed_none g = inr (omega (arith, is_reached, ec, em), refl)
 
       module _ (e : ℕ) (el : e ≡ get_or l (q - 1) 0) where
-        pub weighed_early : e ≤ i
+        pub weighed_early : e ≤ j + 1
         weighed_early = omega (arith, el, tally.within)
 
-        pub weighed_taken : (k : ℕ) → k ≡ c + min m (i - e) → {r : Seed} → Taken s q k m r → Taken s q (reached eqb x i q) m r
+        pub weighed_taken : (k : ℕ) → k ≡ c + min m (j + 1 - e) → {r : Seed} → Taken s q k m r → Taken s q (reached eqb x (j + 1) q) m r
         weighed_taken k ek o =
-            let z : k ≡ reached eqb x i q = omega (arith, is_reached, ek, el, ec, em) in
+            let z : k ≡ reached eqb x (j + 1) q = omega (arith, is_reached, ek, el, ec, em) in
             rw z at o
 
 -- ---- `best`: of the candidates longer than q the best is s, and q is the next one or 0
@@ -158,92 +142,92 @@ pub record Walk (x : List ℕ) (i q m : ℕ) (s : Seed) : Type 0 where
   pub top : Top (Bare x i q) (reached eqb x i) s.len s.count
   pub starts : s.start ≡ start eqb x i s.len
 
-module _ {x : List ℕ} {i far : ℕ} (f : Far x i far) (some : 0 < i) where
-  pub far_in : i ≤ length x → {t : List ℕ} → Holds bare_row x t → far < length t
-  far_in l h = ⊎_elim (λ z. omega (arith, z, h.room)) (λ r. omega (arith, r.proper, h.room)) f.is
+module _ {x : List ℕ} {j far : ℕ} (f : Far x (j + 1) far) (u : j < length x) {c t g : List ℕ} (h : Made x c t g) where
+  pub far_in : far < length t
+  far_in = ⊎_elim (λ z. omega (arith, z, h.bares.room)) (λ r. omega (arith, r.proper, h.bares.room)) f.is
 
-  module _ {b : ℕ} (eb : b ≡ border eqb x i) {t : List ℕ} (h : Holds bare_row x t) (l : i ≤ length x) (q : ℕ) (e : q ≡ get_or t far 0) where
+  module _ {b : ℕ} (eb : b ≡ border eqb x (j + 1)) (q : ℕ) (e : q ≡ get_or t far 0) where
     is_first : q ≡ bare x far
-    is_first = e ∙ h.rows far (⊎_elim (λ z. omega (arith, z)) (λ r. omega (arith, r.proper)) f.is)
+    is_first = e ∙ h.bares.rows far (⊎_elim (λ z. omega (arith, z)) (λ r. omega (arith, r.proper)) f.is)
 
     border_far : b ≤ far
     border_far = ⊎_elim
         (λ (z : b ≡ 0). omega arith)
-        (λ (g : 0 < b). f.most b (repeats_border eqb x eqb_refl i b g (rw eb (border_border eqb x i some))))
+        (λ (g : 0 < b). f.most b (repeats_border eqb x eqb_refl (j + 1) b g (rw eb (border_border eqb x (j + 1) (omega arith)))))
         (eq-zero-or-pos b)
 
-    first_next : (q ≡ 0) ⊎ Bare x i 0 q
+    first_next : (q ≡ 0) ⊎ Bare x (j + 1) 0 q
     first_next = ⊎_elim
         (λ (z : q ≡ 0). inl z)
         (λ (g : 0 < q). ⊎_elim
         (λ z. absurd (omega (arith, z, is_first, bare_le x far)))
-        (λ r. inr (g, rw is_first (bare_bare x far), repeats_shorter eqb x i far q r g (omega (arith, is_first, bare_le x far))))
+        (λ r. inr (g, rw is_first (bare_bare x far), repeats_shorter eqb x (j + 1) far q r g (omega (arith, is_first, bare_le x far))))
         f.is)
         (eq-zero-or-pos q)
 
-    pub walk_first : Walk x i q b (record { len = 0; count = 0; start = 0 })
-    walk_first = record {
+    pub walk_first : {s : Seed} → s.len ≡ 0 → s.count ≡ 0 → s.start ≡ 0 → Walk x (j + 1) q b s
+    walk_first zl zk zm = record {
       ready = record {
-        border = rw eb (border_border eqb x i some);
-        most = λ k _ c. rw eb (border_most eqb x i k c);
+        border = rw eb (border_border eqb x (j + 1) (omega arith));
+        most = λ k _ c. rw eb (border_most eqb x (j + 1) k c);
         next = λ u. bare_same x b far (omega (arith, is_first)) border_far ∙ sym is_first;
       };
       next = first_next;
-      top = top_none (λ k r. omega (arith, r.0, is_first, bare_most x far k (f.most k r.2) r.1));
-      starts = sym (start_none eqb x i);
+      top = rw (zl, zk) (top_none (λ k r. omega (arith, r.0, is_first, bare_most x far k (f.most k r.2) r.1)));
+      starts = rw (zm, zl) (sym (start_none eqb x (j + 1)));
     }
 
-module _ {x : List ℕ} {i q m : ℕ} {s : Seed} (w : Walk x i q m s) (nz : q ≡ 0 → ⊥) where
-  pub walk_bare : Bare x i 0 q
+module _ {x : List ℕ} {j q m : ℕ} {s : Seed} (u : j < length x) (w : Walk x (j + 1) q m s) (nz : q ≡ 0 → ⊥) where
+  pub walk_bare : Bare x (j + 1) 0 q
   walk_bare = ⊎_elim (λ z. absurd (nz z)) (λ b. b) w.next
 
   pub walk_some : 0 < q
   walk_some = walk_bare.0
 
-  pub walk_ready : Ready x i q m
+  pub walk_ready : Ready x (j + 1) q m
   walk_ready = w.ready
 
-  module _ (u : i ≤ length x) {v : List ℕ} (hv : Holds bare_row x v) where
+  module _ {b v f : List ℕ} (hv : Made x b v f) where
     pub in_next : q - 1 < length v
-    in_next = omega (arith, walk_bare.2.proper, hv.room)
+    in_next = omega (arith, walk_bare.2.proper, hv.bares.room)
 
     module _ (p : ℕ) (ep : p ≡ get_or v (q - 1) 0) where
       is_next : p ≡ bare x (q - 1)
-      is_next = ep ∙ hv.rows (q - 1) (omega (arith, walk_bare.2.proper))
+      is_next = ep ∙ hv.bares.rows (q - 1) (omega (arith, walk_bare.2.proper))
 
       pub walk_falls : p < q
       walk_falls = omega (arith, is_next, bare_le x (q - 1), walk_some)
 
-      module _ (n : ℕ) (en : n ≡ start eqb x i q) where
-        ready_next : Ready x i p n
+      module _ (n : ℕ) (en : n ≡ start eqb x (j + 1) q) where
+        ready_next : Ready x (j + 1) p n
         ready_next = record {
-          border = rw en (start_border eqb x i q (omega (arith, walk_bare.2.proper)));
-          most = λ j g b. rw en (start_most eqb x i q j (omega (arith, walk_falls)) b);
-          next = λ g. bare_same x n (q - 1) (omega (arith, is_next)) (omega (arith, en, start_lt eqb x i q walk_some)) ∙ sym is_next;
+          border = rw en (start_border eqb x (j + 1) q (omega (arith, walk_bare.2.proper)));
+          most = λ k g b. rw en (start_most eqb x (j + 1) q k (omega (arith, walk_falls)) b);
+          next = λ g. bare_same x n (q - 1) (omega (arith, is_next)) (omega (arith, en, start_lt eqb x (j + 1) q walk_some)) ∙ sym is_next;
         }
 
-        bare_next : (p ≡ 0) ⊎ Bare x i 0 p
+        bare_next : (p ≡ 0) ⊎ Bare x (j + 1) 0 p
         bare_next = ⊎_elim
             (λ (z : p ≡ 0). inl z)
-            (λ (g : 0 < p). inr (g, rw is_next (bare_bare x (q - 1)), repeats_shorter eqb x i q p walk_bare.2 g (omega (arith, walk_falls))))
+            (λ (g : 0 < p). inr (g, rw is_next (bare_bare x (q - 1)), repeats_shorter eqb x (j + 1) q p walk_bare.2 g (omega (arith, walk_falls))))
             (eq-zero-or-pos p)
 
         -- longer than the next candidate are q and what is longer than q
-        under : (j : ℕ) → Bare x i p j → Under (reached eqb x i) q (reached eqb x i q) j ⊎ Under (reached eqb x i) s.len s.count j
-        under j b = ⊎_elim
-            (λ (g : j ≤ q). ⊎_elim
-            (λ (z : j ≡ q). inl (rw z (omega arith), λ _. omega arith))
-            (λ (g : j < q). absurd (omega (arith, b.0, is_next, bare_most x (q - 1) j (omega arith) b.1)))
+        under : (k : ℕ) → Bare x (j + 1) p k → Under (reached eqb x (j + 1)) q (reached eqb x (j + 1) q) k ⊎ Under (reached eqb x (j + 1)) s.len s.count k
+        under k b = ⊎_elim
+            (λ (g : k ≤ q). ⊎_elim
+            (λ (z : k ≡ q). inl (rw z (omega arith), λ _. omega arith))
+            (λ (g : k < q). absurd (omega (arith, b.0, is_next, bare_most x (q - 1) k (omega arith) b.1)))
             (eq-or-lt_of_le g))
-            (λ (g : q < j). inr (w.top.most j (g, b.1, b.2), w.top.least j (g, b.1, b.2)))
-            (le_or_lt j q)
+            (λ (g : q < k). inr (w.top.most k (g, b.1, b.2), w.top.least k (g, b.1, b.2)))
+            (le_or_lt k q)
 
-        pub walk_next : {r : Seed} → Taken s q (reached eqb x i q) n r → Walk x i p n r
+        pub walk_next : {r : Seed} → Taken s q (reached eqb x (j + 1) q) n r → Walk x (j + 1) p n r
         walk_next {r} y = ⊎_elim
             (λ v. rw v.1 (record {
               ready = ready_next;
               next = bare_next;
-              top = top_join (inr ((walk_falls, walk_bare.1, walk_bare.2), omega arith)) under (wins_later q _ w.top (λ j b. omega (arith, b.0)) (repeats_reached eqb x i q walk_bare.2) v.0);
+              top = top_join (inr ((walk_falls, walk_bare.1, walk_bare.2), omega arith)) under (wins_later q _ w.top (λ k b. omega (arith, b.0)) (repeats_reached eqb x (j + 1) q walk_bare.2) v.0);
               starts = en;
             }))
             (λ v. rw v.1 (record {
@@ -251,7 +235,7 @@ module _ {x : List ℕ} {i q m : ℕ} {s : Seed} (w : Walk x i q m s) (nz : q �
               next = bare_next;
               top = top_join
                   (⊎_elim (λ z. inl z) (λ g. inr ((omega (arith, g.0.0, walk_falls), g.0.1, g.0.2), omega (arith, g.1))) w.top.is)
-                  (λ j b. ⊎_elim (λ a. inr a) (λ a. inl a) (under j b))
+                  (λ k b. ⊎_elim (λ a. inr a) (λ a. inl a) (under k b))
                   (inl v.0);
               starts = w.starts;
             }))

@@ -1,8 +1,10 @@
 -- What the functions of the left seeds hand each other. Assumes nothing.
-use Rattle.std.specs.Prelude.{◌≡◌, List, ◌⊎◌, ℕ, suc, ◌≤◌, ◌<◌, eqb}
+use Rattle.std.specs.Prelude.{◌≡◌, List, ◌⊎◌, ℕ, suc, ◌≤◌, ◌<◌, eqb, length}
 use Rattle.words.specs.Search.{greatest}
 use Rattle.words.specs.Words.{cover}
-use Rattle.words.specs.Tables.{Column}
+use Rattle.words.specs.Tables.{Column, border_row}
+use Rattle.words.specs.Refusals.{longest}
+use Rattle.words.proofs.Tables.{Holds}
 use Rattle.words.proofs.Borders.{Border}
 use Rattle.repeats.proofs.Repeating.{Repeats}
 use Rattle.repeats.proofs.Seeds.{LeftSeed}
@@ -19,6 +21,13 @@ bare_row x r = bare x r
 
 abbrev pub fall_row : Column
 fall_row x r = start eqb x r (bare x r)
+
+-- the border table of a log that is not too long, and the two columns
+pub record Made (x border bare fall : List ℕ) : Type 0 where
+  pub most : length x ≤ longest
+  pub borders : Holds border_row x border
+  pub bares : Holds bare_row x bare
+  pub falls : Holds fall_row x fall
 
 -- s is the left seed of the first i readings, with its longest start that ends them
 pub record Sown (x : List ℕ) (i : ℕ) (s : Seed) : Type 0 where

@@ -1,23 +1,42 @@
 // Floor 2: the patterns that can be a left seed. Only those that have no proper cover can, and each is weighed with its longest start that ends the prefix.
 #![tactic(auto)]
 
-ghost use Rattle.std.specs.Prelude.{◌≡◌, ◌≤◌, ◌<◌, eqb, length};
+ghost use Rattle.std.specs.Prelude.{◌≡◌, ◌+◌, ◌<◌, eqb, length};
 ghost use Rattle.words.specs.Words as Words;
 ghost use Rattle.words.specs.Tables.{border_row, cover_row, written};
-ghost use Rattle.words.specs.Refusals as Refusals;
 ghost use Rattle.words.proofs.Tables.{Room, Holds, Filled};
-ghost use Rattle.tallies.specs.Tallies.{Tallies};
 ghost use Rattle.repeats.specs.Repeats.{reached};
 ghost use Rattle.repeats.proofs.Starts as Starts;
 ghost use Rattle.repeats.proofs.LeftSeeds.{Bare};
 ghost use Rattle.candidates.specs.Candidates.{bare_row, fall_row, Sown, Far, Ready, Taken};
 
+mod columns;
+
+pub use columns::{Columns, Row};
+
 // The left seed of a prefix: its length, the positions that it reaches, and its longest start that ends the prefix.
-#[derive(Clone, Copy)]
+#[derive(Clone, Copy, Default)]
 pub struct Seed {
     pub len: usize,
     pub count: usize,
     pub start: usize,
+}
+
+impl Seed {
+    // Weighs one pattern more, q, which reaches k positions and whose longest start is m. Of equals it takes q, the shorter.
+    fn weigh(self, q: usize, k: usize, m: usize) -> Seed
+        ensures { Taken self q k m result }
+    {
+        if self.count <= k {
+            Seed {
+                len: q,
+                count: k,
+                start: m,
+            }
+        } else {
+            self
+        }
+    }
 }
 
 // Row r, from the rows before it: the longest length up to r that has no proper cover.
@@ -26,12 +45,12 @@ fn bare_at(x: &[u8], cover: &[u16], bare: &[u16], r: usize) -> usize
     ensures { result ≡ bare_row x.now r }
 {
     if r == 0 {
-        return 0;
+        0
+    } else if cover[r - 1] == 0 {
+        r
+    } else {
+        usize::from(bare[r - 1])
     }
-    if cover[r - 1] == 0 {
-        return r;
-    }
-    words::wide(bare[r - 1])
 }
 
 // Row r, from the rows before it: the longest border of the first r readings that is shorter than q, the longest length up to r without a proper cover.
@@ -42,11 +61,8 @@ fn fall_at(x: &[u8], border: &[u16], fall: &[u16], r: usize, q: usize) -> usize
     if r == 0 {
         return 0;
     }
-    let b = words::wide(border[r - 1]);
-    if b < q {
-        return b;
-    }
-    words::wide(fall[b])
+    let b = usize::from(border[r - 1]);
+    if b < q { b } else { usize::from(fall[b]) }
 }
 
 // Row r of `bare` becomes the longest length up to r that has no proper cover, row r of `fall` the longest border of the first r readings that is shorter
@@ -56,80 +72,52 @@ pub fn rows(x: &[u8], border: &[u16], cover: &[u16], bare: &mut [u16], fall: &mu
     ensures bare { bare.new ≡ written (bare_row x.now) (length x.now) bare.old }
     ensures fall { fall.new ≡ written (fall_row x.now) (length x.now) fall.old }
 {
-    let mut r = 0;
-    while r < x.len() {
+    for r in 0..x.len() {
         let q = bare_at(x, cover, bare, r);
         let m = fall_at(x, border, fall, r, q);
         bare[r] = q as u16;
         fall[r] = m as u16;
-        r += 1;
     }
 }
 
-// The longest start of q that ends the first i readings, where m is that of the pattern before q.
-fn start_of(x: &[u8], fall: &[u16], i: usize, m: usize, q: usize) -> usize
-    requires { Holds fall_row x.now fall.now × Ready x.now i q m × (0 < i) × (i ≤ length x.now) × (0 < q) }
-    ensures { result ≡ Starts.start eqb x.now i q }
+// The longest start of q that ends the row's prefix, where m is that of the pattern before q.
+fn start_of(row: &Row, m: usize, q: usize) -> usize
+    requires { Ready row.now.columns.x.now (row.now.j + 1) q m × (0 < q) }
+    ensures { result ≡ Starts.start eqb row.now.columns.x.now (row.now.j + 1) q }
 {
     if q <= m {
-        return words::wide(fall[m]);
+        usize::from(row.columns.fall[m])
+    } else {
+        m
     }
-    m
-}
-
-// Weighs one pattern more, q, which reaches k positions. Of equals it takes q, the shorter.
-fn taken(s: Seed, q: usize, k: usize, m: usize) -> Seed
-    ensures { Taken s q k m result }
-{
-    if s.count <= k {
-        return Seed {
-            len: q,
-            count: k,
-            start: m,
-        };
-    }
-    s
 }
 
 // Weighs one pattern more, q, whose longest start is m. Where what it covers and all of the start are not enough, its last end is not asked.
-fn weighed(x: &[u8], last: &[u16], held: &[u16], i: usize, q: usize, m: usize, s: Seed) -> Seed
-    requires { Tallies x.now last.now held.now i × Bare x.now i 0 q × (m ≡ Starts.start eqb x.now i q) × (i ≤ length x.now) × (length x.now ≤ Refusals.longest) }
-    ensures { Taken s q (reached eqb x.now i q) m result }
+fn weighed(row: &Row, q: usize, m: usize, s: Seed) -> Seed
+    requires { Bare row.now.columns.x.now (row.now.j + 1) 0 q × (m ≡ Starts.start eqb row.now.columns.x.now (row.now.j + 1) q) }
+    ensures { Taken s q (reached eqb row.now.columns.x.now (row.now.j + 1) q) m result }
 {
-    let c = words::wide(held[q - 1]);
+    let c = usize::from(row.held[q - 1]);
     if c + m < s.count {
         return s;
     }
-    let k = tallies::grown(m, i, words::wide(last[q - 1]), c);
-    taken(s, q, k, m)
+    let k = tallies::grown(m, row.j + 1, usize::from(row.last[q - 1]), c);
+    s.weigh(q, k, m)
 }
 
-// The left seed of the first i readings: every pattern without a proper cover that repeats, from the longest down. `far` is the longest prefix that
+// The left seed of the row's prefix: every pattern without a proper cover that repeats, from the longest down. `far` is the longest prefix that
 // repeats, b the border.
-pub fn best(
-    x: &[u8],
-    bare: &[u16],
-    fall: &[u16],
-    last: &[u16],
-    held: &[u16],
-    i: usize,
-    far: usize,
-    b: usize,
-) -> Seed
-    requires { Holds bare_row x.now bare.now × Holds fall_row x.now fall.now × Tallies x.now last.now held.now i × Far x.now i far × (b ≡ Words.border eqb x.now i) × (0 < i) × (i ≤ length x.now) × (length x.now ≤ Refusals.longest) }
-    ensures { Sown x.now i result }
+pub fn best(row: &Row, far: usize, b: usize) -> Seed
+    requires { Far row.now.columns.x.now (row.now.j + 1) far × (b ≡ Words.border eqb row.now.columns.x.now (row.now.j + 1)) }
+    ensures { Sown row.now.columns.x.now (row.now.j + 1) result }
 {
-    let mut s = Seed {
-        len: 0,
-        count: 0,
-        start: 0,
-    };
+    let mut s = Seed::default();
     let mut m = b;
-    let mut q = words::wide(bare[far]);
+    let mut q = usize::from(row.columns.bare[far]);
     while q != 0 {
-        m = start_of(x, fall, i, m, q);
-        s = weighed(x, last, held, i, q, m, s);
-        q = words::wide(bare[q - 1]);
+        m = start_of(row, m, q);
+        s = weighed(row, q, m, s);
+        q = usize::from(row.columns.bare[q - 1]);
     }
     s
 }

@@ -1,12 +1,5 @@
 -- What the loop stores fits, and the total that it makes is that of the rows. Assumes nothing.
-use mathlib.Core.Path.{◌≡◌, sym, ap, ◌∙◌}
-use mathlib.Core.List.{List}
-use Prim.Native.Nat.{ℕ, ◌+◌, ◌≤◌, ◌<◌}
-use native.Mathlib.Omega.{arith}
-use lib.ListN.{length}
-use lib.Dec.{eqb}
-use mir.Syntax.{w16}
-use mir.Val.{Fits}
+use Rattle.std.proofs.Common.{◌≡◌, sym, ap, ◌∙◌, List, ℕ, ◌+◌, ◌≤◌, ◌<◌, arith, length, eqb, w16, Fits}
 use Rattle.words.specs.Search.{sum}
 use Rattle.words.specs.Words.{used, total}
 use Rattle.words.specs.Tables.{best_row, count_row}

@@ -24,14 +24,12 @@ pub fn rows(
     ensures total { result ≡ total eqb x.now }
 {
     let mut sum: u32 = 0;
-    let mut j = 0;
-    while j < x.len() {
-        let b = words::wide(best[j]);
+    for j in 0..x.len() {
+        let b = usize::from(best[j]);
         let p = tallies::row(x, chain, last, held, j, b, sum);
         best[j] = p.best as u16;
         count[j] = p.count as u16;
         sum = p.total;
-        j += 1;
     }
     sum
 }

@@ -21,7 +21,7 @@ use Rattle.lines.proofs.Texts.{put_put}
 use Rattle.ceilings.specs.declared.Ceiling.{Ceiling}
 use Rattle.ceilings.specs.Ceilings.{ceiling_of}
 use Rattle.summary.specs.declared.Summary.{Summary}
-use Rattle.summary.specs.Whole.{summary_of}
+use Rattle.summary.specs.Whole.{outline_of, summary_of}
 use Rattle.facts.specs.Report as R
 
 -- ---- lines
@@ -64,27 +64,27 @@ part_is : (s t : List ℕ) {u : ℕ} → u ≡ length s → part (s ++ t) u ≡ 
 part_is s t {u} e = rw (sub-zero u, e) (take_at s t (length s) refl)
 
 module _ (x : List ℕ) {s : Summary} (e : s ≡ summary_of x) where
-  covers_used : s.covers ≡ length (W.cover_list eqb x)
-  unfolding summary_of
-  covers_used = ap (λ (a : Summary). a.covers) e
+  covers_used : s.outline.covers ≡ length (W.cover_list eqb x)
+  unfolding summary_of outline_of
+  covers_used = ap (λ (a : Summary). a.outline.covers) e
 
   module _ {t : List ℕ} (after : List ℕ) (made : t ≡ W.cover_list eqb x ++ after) where
-    pub covers_within : s.covers ≤ length t
+    pub covers_within : s.outline.covers ≤ length t
     covers_within = omega (arith, covers_used, ap length made, length-append (W.cover_list eqb x) after)
 
-    pub covers_part : part t s.covers ≡ W.cover_list eqb x
+    pub covers_part : part t s.outline.covers ≡ W.cover_list eqb x
     covers_part = rw made (part_is (W.cover_list eqb x) after covers_used)
 
-  weighed_is : s.weighed ≡ listed 0 (W.weighed eqb x (length x)) (W.limit (length x))
-  unfolding summary_of
-  weighed_is = ap (λ (a : Summary). a.weighed) e
+  weighed_is : s.outline.weighed ≡ listed 0 (W.weighed eqb x (length x)) (W.limit (length x))
+  unfolding summary_of outline_of
+  weighed_is = ap (λ (a : Summary). a.outline.weighed) e
 
-  module _ {k : ℕ} (used : k ≡ s.weighed.used) where
+  module _ {k : ℕ} (used : k ≡ s.outline.weighed.used) where
     weighed_used : k ≡ length (W.weighed eqb x (length x))
     unfolding listed
     weighed_used = used ∙ ap (λ (w : Weighed). w.used) weighed_is
 
-    pub weighed_within : Judged (length x) → k ≤ length s.weighed.lens
+    pub weighed_within : Judged (length x) → k ≤ length s.outline.weighed.lens
     unfolding listed
     weighed_within j = omega (
       arith,
@@ -94,7 +94,7 @@ module _ (x : List ℕ) {s : Summary} (e : s ≡ summary_of x) where
       length_places weighed_places 0 (W.weighed eqb x (length x)) (weighed_few x j),
     )
 
-    pub weighed_part : part s.weighed.lens k ≡ W.weighed eqb x (length x)
+    pub weighed_part : part s.outline.weighed.lens k ≡ W.weighed eqb x (length x)
     unfolding listed places
     weighed_part = rw weighed_is (part_is (W.weighed eqb x (length x)) _ weighed_used)
 
@@ -108,7 +108,7 @@ module _ {x : List ℕ} {s : Summary} {covers weighed text : List ℕ} (f : R.Fa
   told_weighed = rw f.weighs (weighed_few x f.judged)
 
   pub told_says : {h : Ceiling} → h ≡ ceiling_of x → {a b c d : List ℕ} {e g r : ℕ}
-      → Put a 0 (R.shape_lines (length x) s.normal covers) b e → Put b e (R.border_lines s.best s.count weighed) c g → Put c g (R.ceiling_lines h) d r
+      → Put a 0 (R.shape_lines (length x) s.outline.normal covers) b e → Put b e (R.border_lines s.best s.count weighed) c g → Put c g (R.ceiling_lines h) d r
       → take r d ≡ R.report_text x
-  unfolding R.report_text summary_of
+  unfolding R.report_text summary_of outline_of
   told_says h p q t = rw (f.summed, f.covered, f.weighs, h) at (put_put (put_put p q) t).says

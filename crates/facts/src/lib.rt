@@ -58,8 +58,7 @@ fn told(x: &[u8], s: summary::Summary, covers: &[u16], weighed: &[u16], text: &m
     requires { Report.Facts x.now s covers.now weighed.now text.old }
     ensures { Says text.new result (Report.report_text x.now) }
 {
-    let normal = s.normal;
-    let shaped = shape(x.len() as u16, normal, covers, text);
+    let shaped = shape(x.len() as u16, s.outline.normal, covers, text);
     let bordered = borders(s.best, s.count, weighed, text, shaped);
     ceiling(ceilings::of(x), text, bordered)
 }
@@ -71,8 +70,8 @@ pub fn report(x: &[u8], text: &mut [u8]) -> usize
 {
     let mut covers = [0u16; words::LONGEST];
     let s = summary::of(x, &mut covers);
-    let used = s.covers;
-    let weighed = s.weighed;
+    let used = s.outline.covers;
+    let weighed = s.outline.weighed;
     let lens = weighed.lens;
     let few = words::wide(weighed.used);
     told(x, s, &covers[0..used], &lens[0..few], text)

@@ -54,6 +54,8 @@ fn four_columns(
     weighed_beside(x, border, cover, best, count, chain, up, kids)
 }
 
+// The tables stay five parameters, as C lends them: of one type a clause would say `tables.exit.border.now` for `border.new`, and so for each of the five.
+
 // Writes all five columns of x into the first rows of the lent tables, each made once from those before it, and returns the weighed total. The prefix
 // table is made last: until then the chain stands in its rows.
 pub fn rows(

@@ -1,21 +1,13 @@
 -- What each row and the columns come to, on plain lists and numbers. Assumes nothing.
-use mathlib.Core.Path.{◌≡◌}
-use mathlib.Core.List.{List}
-use mathlib.Core.Logic.{⊎_elim}
-use Prim.Native.Nat.{ℕ, ◌+◌, ◌≤◌, ◌<◌}
-use native.Mathlib.Omega.{arith}
-use lib.Dec.{eqb}
-use lib.ListN.{length}
-use mir.Syntax.{w16}
-use mir.Val.{Fits}
+use Rattle.std.proofs.Common.{◌≡◌, List, ⊎_elim, ℕ, ◌+◌, ◌≤◌, ◌<◌, arith, eqb, length, w16, Fits}
 use Rattle.words.specs.Tables.{Column, border_row, written}
 use Rattle.words.specs.Refusals.{longest}
 use Rattle.words.proofs.Tables.{Room, Holds, written_holds}
 use Rattle.repeats.specs.Repeats.{left_seed_row, seed_count_row}
 use Rattle.repeats.proofs.Seeds.{reached_le, seed_seed, seed_one}
-use Rattle.candidates.specs.Candidates.{bare_row, fall_row}
+use Rattle.candidates.specs.Candidates.{bare_row, fall_row, Made}
 use Rattle.standings.specs.declared.Standing.{Standing}
-use Rattle.standings.specs.Standings.{Columns, Stands}
+use Rattle.standings.specs.Standings.{Stands}
 
 -- ---- `judge`
 
@@ -42,5 +34,5 @@ pub room_holds : (f : Column) {x s t : List ℕ} → Room x s → t ≡ written 
 room_holds f {x} {s} h e = written_holds f x s h.room e
 
 pub columns_made : {x b b₀ t t₀ f f₀ : List ℕ} → Room x b₀ → Room x t₀ → Room x f₀
-    → b ≡ written (border_row x) (length x) b₀ → t ≡ written (bare_row x) (length x) t₀ → f ≡ written (fall_row x) (length x) f₀ → Columns x b t f
-columns_made rb rt rf eb et ef = record { bordered = record { most = rb.most; borders = room_holds border_row rb eb }; bares = room_holds bare_row rt et; falls = room_holds fall_row rf ef }
+    → b ≡ written (border_row x) (length x) b₀ → t ≡ written (bare_row x) (length x) t₀ → f ≡ written (fall_row x) (length x) f₀ → Made x b t f
+columns_made rb rt rf eb et ef = record { most = rb.most; borders = room_holds border_row rb eb; bares = room_holds bare_row rt et; falls = room_holds fall_row rf ef }

@@ -8,52 +8,55 @@ ghost use Rattle.words.proofs.Weighs.{heaviest_row};
 ghost use Rattle.cover.specs.Tree.{Blank};
 ghost use Rattle.tallies.specs.Tallies.{Tallies};
 ghost use Rattle.repeats.specs.Repeats.{left_seed_row, seed_count_row};
-ghost use Rattle.standings.specs.Standings.{Columns, Stands};
+ghost use Rattle.candidates.specs.Candidates.{Made};
+ghost use Rattle.standings.specs.Standings.{Stands};
+
+use candidates::{Columns, Row};
+use standings::Standing;
 
 // One row: its weighed borders are tallied, and its entry in their chain is laid over its cover.
 fn row(
-    x: &[u8],
-    border: &[u16],
-    bare: &[u16],
-    fall: &[u16],
+    columns: &Columns,
     chain: &mut [u16],
     last: &mut [u16],
     held: &mut [u16],
     j: usize,
-    was: standings::Standing,
-) -> standings::Standing
-    requires { Columns x.now border.now bare.now fall.now × Filled heaviest_row x.now chain.old j × (get_or chain.old j 0 ≡ cover_row x.now j) × Tallies x.now last.old held.old j × Stands x.now j was }
-    ensures chain { chain.new ≡ set chain.old j (heaviest_row x.now j) }
-    ensures tallies { Tallies x.now last.new held.new (j + 1) }
-    ensures stands { Stands x.now (j + 1) result }
+    was: Standing,
+) -> Standing
+    requires { Filled heaviest_row columns.now.x.now chain.old j × (get_or chain.old j 0 ≡ cover_row columns.now.x.now j) × Tallies columns.now.x.now last.old held.old j × Stands columns.now.x.now j was }
+    ensures chain { chain.new ≡ set chain.old j (heaviest_row columns.now.x.now j) }
+    ensures tallies { Tallies columns.now.x.now last.new held.new (j + 1) }
+    ensures stands { Stands columns.now.x.now (j + 1) result }
 {
-    let p = tallies::row(x, chain, last, held, j, words::wide(border[j]), 0);
-    standings::stand(x, border, bare, fall, last, held, j, was, p)
+    let b = usize::from(columns.border[j]);
+    let p = tallies::row(columns.x, chain, last, held, j, b, 0);
+    let row = Row {
+        columns: *columns,
+        last,
+        held,
+        j,
+    };
+    standings::stand(&row, was, p)
 }
 
 // The rows, from the columns that every row reads and the cover table, with which `chain` comes, with room to work in.
 fn judge(
-    x: &[u8],
-    border: &[u16],
-    bare: &[u16],
-    fall: &[u16],
+    columns: &Columns,
     chain: &mut [u16],
     last: &mut [u16],
     held: &mut [u16],
     best: &mut [u16],
     count: &mut [u16],
 )
-    requires { Columns x.now border.now bare.now fall.now × Holds cover_row x.now chain.old × Room x.now last.old × Room x.now held.old × Room x.now best.old × Room x.now count.old }
-    ensures best { best.new ≡ written (left_seed_row x.now) (length x.now) best.old }
-    ensures count { count.new ≡ written (seed_count_row x.now) (length x.now) count.old }
+    requires { Holds cover_row columns.now.x.now chain.old × Room columns.now.x.now last.old × Room columns.now.x.now held.old × Room columns.now.x.now best.old × Room columns.now.x.now count.old }
+    ensures best { best.new ≡ written (left_seed_row columns.now.x.now) (length columns.now.x.now) best.old }
+    ensures count { count.new ≡ written (seed_count_row columns.now.x.now) (length columns.now.x.now) count.old }
 {
-    let mut s = standings::none();
-    let mut j = 0;
-    while j < x.len() {
-        s = row(x, border, bare, fall, chain, last, held, j, s);
+    let mut s = Standing::default();
+    for j in 0..columns.x.len() {
+        s = row(columns, chain, last, held, j, s);
         best[j] = s.seed.len as u16;
         count[j] = s.seed.count as u16;
-        j += 1;
     }
 }
 
@@ -68,7 +71,7 @@ fn columns(
     kids: &mut [u16],
 )
     requires { Room x.now border.old × Room x.now cover.old × Room x.now bare.old × Room x.now fall.old × Blank x.now up.old kids.old }
-    ensures { Columns x.now border.new bare.new fall.new × Holds cover_row x.now cover.new }
+    ensures { Made x.now border.new bare.new fall.new × Holds cover_row x.now cover.new }
 {
     bases::borders_and_covers(x, border, cover, up, kids);
     candidates::rows(x, border, cover, bare, fall);
@@ -96,7 +99,11 @@ pub fn rows(x: &[u8], best: &mut [u16], count: &mut [u16])
         &mut up,
         &mut kids,
     );
-    judge(
-        x, &border, &bare, &fall, &mut chain, &mut up, &mut kids, best, count,
-    );
+    let made = Columns {
+        x,
+        border: &border,
+        bare: &bare,
+        fall: &fall,
+    };
+    judge(&made, &mut chain, &mut up, &mut kids, best, count);
 }

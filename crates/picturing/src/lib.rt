@@ -19,7 +19,7 @@ fn front(t: &[u16], n: usize) -> &[u16] {
 fn numbers(x: &[u8], s: summary::Summary) -> legend::Numbers
     requires { Judged (length x.now) }
 {
-    let normal = s.normal;
+    let normal = s.outline.normal;
     legend::Numbers {
         k1: normal.k1,
         k2: normal.k2,
@@ -36,12 +36,12 @@ fn draw(x: &[u8], out: &mut [u8]) -> Pen
 {
     let mut covers = [0u16; words::LONGEST];
     let s = summary::of(x, &mut covers);
-    let weighed = s.weighed;
+    let weighed = s.outline.weighed;
     let lens = weighed.lens;
     drawing::draw(
         out,
         x,
-        front(&covers, s.covers),
+        front(&covers, s.outline.covers),
         front(&lens, words::wide(weighed.used)),
         numbers(x, s),
     )

@@ -1,34 +1,15 @@
--- What each way through the choice between two patterns comes to. Assumes nothing.
-use mathlib.Core.Bool.{Bool, true, false, true≢false}
-use mathlib.Core.Path.{◌≡◌, refl, sym, ◌∙◌}
-use mathlib.Core.Logic.{inl, inr, ⊎_elim}
-use Prim.Native.Nat.{◌≤◌, ◌<◌}
-use native.Mathlib.Omega.{arith}
-use lib.Dec.{leb}
-use borrow.Author.Tests.{leb-true, leb-false}
+-- What the order of patterns comes to: of two, the greater wins. Assumes nothing.
+use Rattle.std.proofs.Common.{Ordering, ◌≡◌, arith}
+use Rattle.std.proofs.lemmas.Bool.Decides.{nat_tests}
+use Rattle.std.specs.Ordering.{ord_max, on, flip_args, then_cmp, nat_cmp}
 use Rattle.repeats.specs.declared.Found.{Found}
-use Rattle.repeats.specs.Better.{Won, Better}
+use Rattle.repeats.specs.Better.{Better}
 
-module _ (a b : Found) where
-  pub second_more : a.count < b.count → Won a b false
-  second_more h = record { yes = λ e. absurd (true≢false (sym e)); not = λ _. inl h }
+abbrev pub by_worth : Found → Found → Ordering
+by_worth = then_cmp (on (λ (f : Found). f.count) nat_cmp) (flip_args (on (λ (f : Found). f.len) nat_cmp))
 
-  pub first_more : b.count < a.count → Won a b true
-  first_more h = record { yes = λ _. inl h; not = λ e. absurd (true≢false e) }
+greater : (a b : Found) → Better a b (ord_max by_worth a b)
+greater a b = grind (arith, nat_tests)
 
-  pub same_count : a.count ≤ b.count → b.count ≤ a.count → {r : Bool} → r ≡ leb a.len b.len → Won a b r
-  same_count h l e = record {
-    yes = λ t. inr (omega arith, leb-true _ _ (sym e ∙ t));
-    not = λ t. let u = leb-false a.len b.len (sym e ∙ t) in inr (omega arith, omega arith);
-  }
-
-  module _ {r : Bool} (w : Won a b r) where
-    pub first_wins : r ≡ true → Better a b a
-    first_wins t = inl (refl, w.yes t)
-
-    pub second_wins : r ≡ false → Better a b b
-    second_wins t = inr (refl, w.not t)
-
--- whichever of the two is asked first
-pub swapped : {a b r : Found} → Better b a r → Better a b r
-swapped o = ⊎_elim (λ w. inr w) (λ w. inl w) o
+pub greater_wins : {a b r : Found} → r ≡ ord_max by_worth a b → Better a b r
+greater_wins {a} {b} e = rw e (greater a b)

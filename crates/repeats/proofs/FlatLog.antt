@@ -1,12 +1,5 @@
 -- The flat log: at every prefix of two readings or more its left cover and its left seed are a pattern of one reading that accounts for all. Assumes nothing.
-use mathlib.Core.Path.{◌≡◌, ◌∙◌}
-use mathlib.Core.List.{List}
-use mathlib.Core.Logic.{inr}
-use Prim.Native.Nat.{ℕ, ◌≤◌}
-use native.Mathlib.Nat.{le_antisymm}
-use native.Mathlib.Omega.{arith}
-use lib.Dec.{eqb}
-use lib.ListN.{replicate}
+use Rattle.std.proofs.Common.{◌≡◌, ◌∙◌, List, inr, ℕ, ◌≤◌, le_antisymm, arith, eqb, replicate}
 use Rattle.words.proofs.Occurrences.{eqb_refl}
 use Rattle.words.proofs.Covers.{covers_border}
 use Rattle.words.proofs.Counts.{covered_all}

@@ -1,12 +1,6 @@
 -- The left cover. Where each reading agrees with itself it is the best so far of the enhanced table: the greatest Count at any j up to i, and of equals the
 -- smaller Best. Where a border covers all, it is Best. Assumes nothing.
-use mathlib.Core.Bool.{Bool}
-use mathlib.Core.Path.{◌≡◌, sym, ◌∙◌}
-use mathlib.Core.List.{List}
-use mathlib.Core.Logic.{◌⊎◌, inl, inr, ⊎_elim}
-use Prim.Native.Nat.{ℕ, zero, suc, ◌+◌, ◌≤◌, ◌<◌}
-use native.Mathlib.Numerals.{add-one}
-use native.Mathlib.Omega.{arith}
+use Rattle.std.proofs.Common.{Bool, ◌≡◌, sym, ◌∙◌, List, ◌⊎◌, inl, inr, ⊎_elim, ℕ, zero, suc, ◌+◌, ◌≤◌, ◌<◌, add-one, arith}
 use Rattle.words.specs.Words.{covered, best, count}
 use Rattle.words.proofs.Search.{some_how_many}
 use Rattle.words.proofs.Tops.{Top, Wins, Under, wins_or, top_one, top_join}

@@ -1,12 +1,5 @@
 -- The left seed, from one reading to the next and from the left cover. Assumes nothing.
-use mathlib.Core.Bool.{Bool, true}
-use mathlib.Core.Path.{◌≡◌}
-use mathlib.Core.List.{List}
-use mathlib.Core.Logic.{◌⊎◌, inl, inr, ⊎_elim}
-use Prim.Native.Nat.{ℕ, ◌+◌, ◌-◌, ◌≤◌, ◌<◌}
-use native.Mathlib.Omega.{arith}
-use lib.Dec.{eqb}
-use lib.ListN.{get_or}
+use Rattle.std.proofs.Common.{Bool, true, ◌≡◌, List, ◌⊎◌, inl, inr, ⊎_elim, ℕ, ◌+◌, ◌-◌, ◌≤◌, ◌<◌, arith, eqb, get_or}
 use Rattle.words.specs.Words.{border, cover, covered}
 use Rattle.words.proofs.Tops.{Top, Wins, Under, Stand, top_join, top_all, top_within}
 use Rattle.words.proofs.Occurrences.{Occurs, Reflexive}

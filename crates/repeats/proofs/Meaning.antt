@@ -1,13 +1,6 @@
 -- What left covers and left seeds mean, in the words that ask for them. Positions are numbered from 1, and a part of the log is a list, as in words/proofs/Meaning.
 -- Assumes nothing.
-use mathlib.Core.Bool.{true}
-use mathlib.Core.Path.{◌≡◌}
-use mathlib.Core.List.{List}
-use mathlib.Core.Logic.{◌⊎◌, inl, inr, ⊎_elim, ◌↔◌}
-use Prim.Native.Nat.{ℕ, ◌+◌, ◌-◌, ◌≤◌, ◌<◌}
-use native.Mathlib.Omega.{arith}
-use lib.Dec.{eqb}
-use lib.ListN.{length}
+use Rattle.std.proofs.Common.{true, ◌≡◌, List, ◌⊎◌, inl, inr, ⊎_elim, ◌↔◌, ℕ, ◌+◌, ◌-◌, ◌≤◌, ◌<◌, arith, eqb, length}
 use Rattle.words.specs.Words.{covered}
 use Rattle.words.proofs.Tops.{Top, top_same}
 use Rattle.words.proofs.Occurrences.{Occurs}

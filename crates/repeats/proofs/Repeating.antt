@@ -1,13 +1,5 @@
 -- Prefixes that occur twice. Under any rule: a shorter one occurs twice too, and one reading more brings in the borders of the new prefix alone. Assumes nothing.
-use mathlib.Core.Bool.{Bool, true, ◌&&◌, true≢false}
-use mathlib.Core.Path.{◌≡◌, sym, ◌∙◌}
-use mathlib.Core.List.{List}
-use mathlib.Core.Logic.{◌⊎◌, inl, inr, ⊎_elim, ◌↔◌}
-use Prim.Native.Nat.{ℕ, suc, ◌+◌, ◌-◌, ◌≤◌, ◌<◌}
-use native.Mathlib.Nat.{eq-or-lt_of_le}
-use native.Mathlib.Omega.{arith}
-use lib.Dec.{leb, ltb}
-use borrow.Author.Tests.{leb-true, le-leb, ltb-true, lt-ltb}
+use Rattle.std.proofs.Common.{Bool, true, ◌&&◌, true≢false, ◌≡◌, sym, ◌∙◌, List, ◌⊎◌, inl, inr, ⊎_elim, ◌↔◌, ℕ, suc, ◌+◌, ◌-◌, ◌≤◌, ◌<◌, eq-or-lt_of_le, arith, leb, ltb, leb-true, le-leb, ltb-true, lt-ltb}
 use Rattle.words.specs.Search.{peak}
 use Rattle.words.specs.Words.{occurs, is_border, covered}
 use Rattle.words.proofs.Tests.{and_left, and_right, and_both, and3, by_test, cond_case}

@@ -1,14 +1,6 @@
 -- The left seed: what a pattern reaches by its occurrences, and by a start of it that ends the prefix. Under any rule: one reading more reaches at most one
 -- position more. Where readings agree by being equal, a cover of a pattern reaches all that the pattern reaches. Assumes nothing.
-use mathlib.Core.Bool.{Bool, true, ◌&&◌, ◌||◌}
-use mathlib.Core.Path.{◌≡◌}
-use mathlib.Core.List.{List}
-use mathlib.Core.Logic.{◌⊎◌, inl, inr, ⊎_elim, ◌↔◌}
-use Prim.Native.Nat.{ℕ, ◌+◌, ◌-◌, ◌≤◌, ◌<◌}
-use native.Mathlib.Nat.{eq-or-lt_of_le}
-use native.Mathlib.Omega.{arith}
-use lib.Dec.{eqb, leb}
-use borrow.Author.Tests.{leb-true, le-leb}
+use Rattle.std.proofs.Common.{Bool, true, ◌&&◌, ◌||◌, ◌≡◌, List, ◌⊎◌, inl, inr, ⊎_elim, ◌↔◌, ℕ, ◌+◌, ◌-◌, ◌≤◌, ◌<◌, eq-or-lt_of_le, arith, eqb, leb, leb-true, le-leb}
 use Rattle.words.specs.Words.{is_border, inside, covered}
 use Rattle.words.proofs.Tests.{and_left, and_right, and_both, or_cases, or_left, or_right, by_test, both_ways, le_or_lt}
 use Rattle.words.proofs.Search.{any_some, some_any, how_many_le, how_many_hit, how_many_miss, how_many_same, how_many_mono}

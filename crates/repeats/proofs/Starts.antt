@@ -1,15 +1,6 @@
 -- The longest start of a pattern that ends a prefix and is not the pattern itself: the longest border shorter than the pattern. Under any rule it says what
 -- the pattern reaches beyond its last occurrence, and whether one reading more is reached too. Assumes nothing.
-use mathlib.Core.Bool.{Bool, true, false}
-use mathlib.Core.Path.{◌≡◌, refl, sym, ap, ◌∙◌}
-use mathlib.Core.List.{List}
-use mathlib.Core.Logic.{inl, inr, ⊎_elim}
-use Prim.Native.Nat.{ℕ, zero, suc, ◌+◌, ◌-◌, ◌≤◌, ◌<◌, min}
-use native.Mathlib.Nat.{eq-or-lt_of_le}
-use native.Mathlib.Numerals.{add-one}
-use native.Mathlib.Omega.{arith}
-use lib.ListN.{get_or}
-use lib.Dec.{eqb}
+use Rattle.std.proofs.Common.{Bool, true, false, ◌≡◌, refl, sym, ap, ◌∙◌, List, inl, inr, ⊎_elim, ℕ, zero, suc, ◌+◌, ◌-◌, ◌≤◌, ◌<◌, min, eq-or-lt_of_le, add-one, arith, get_or, eqb}
 use Rattle.words.specs.Search.{greatest}
 use Rattle.words.specs.Words.{is_border, border, inside, covered}
 use Rattle.words.proofs.Tests.{not_passed, both_ways}

@@ -1,12 +1,7 @@
--- What the choice between two patterns promises. Assumes nothing.
-use Rattle.std.specs.Prelude.{Bool, true, false, ◌≡◌, ◌⊎◌}
+-- What the greater of two patterns promises. Assumes nothing.
+use Rattle.std.specs.Prelude.{◌≡◌, ◌⊎◌}
 use Rattle.words.proofs.Tops.{Wins}
 use Rattle.repeats.specs.declared.Found.{Found}
-
--- r says whether a wins over b; else b wins over a
-pub record Won (a b : Found) (r : Bool) : Type 0 where
-  pub yes : r ≡ true → Wins a.len a.count b.len b.count
-  pub not : r ≡ false → Wins b.len b.count a.len a.count
 
 -- r is the one of a and b that wins: it is worth more, or as much and no longer
 abbrev pub Better : Found → Found → Found → Type 0

@@ -1,15 +1,6 @@
 -- What each way through the functions of the standings comes to, on plain lists and numbers. Assumes nothing.
-use mathlib.Core.Bool.{true}
-use mathlib.Core.Path.{◌≡◌, refl, sym, ap, ◌∙◌}
-use mathlib.Core.List.{List}
-use mathlib.Core.Logic.{inl, inr, ⊎_elim}
-use Prim.Native.Nat.{ℕ, ◌+◌, ◌-◌, ◌≤◌, ◌<◌, max}
-use native.Mathlib.Omega.{arith}
-use lib.Dec.{eqb}
-use lib.ListN.{length, get_or}
-use borrow.Author.Tests.{eq-eqb}
-use mir.Syntax.{w64}
-use mir.Val.{Fits}
+use Rattle.std.proofs.Common.{true, ◌≡◌, refl, sym, ap, ◌∙◌, List, inl, inr, ⊎_elim, ℕ, ◌+◌, ◌-◌, ◌≤◌, ◌<◌, max, arith, eqb, length, get_or, eq-eqb, w64, Fits}
+use Rattle.std.specs.Ordering.{ord_max}
 use Rattle.words.specs.Words.{border, covered}
 use Rattle.words.proofs.Tests.{le_or_lt}
 use Rattle.words.proofs.Occurrences.{eqb_refl}
@@ -20,6 +11,7 @@ use Rattle.tallies.specs.declared.Pick.{Pick}
 use Rattle.tallies.specs.Tallies.{Tally, Tallies, Judgement}
 use Rattle.repeats.specs.declared.Found.{Found}
 use Rattle.repeats.specs.Better.{Better}
+use Rattle.repeats.proofs.Choices.{by_worth, greater_wins}
 use Rattle.repeats.specs.Repeats.{reached}
 use Rattle.repeats.proofs.Repeating.{Repeats, repeats_none, repeats_zero, repeats_wider, repeats_border, repeats_step}
 use Rattle.repeats.proofs.LeftCovers.{LeftCover, left_stays, left_moves}
@@ -27,9 +19,9 @@ use Rattle.repeats.proofs.Seeds.{LeftSeed, reached_le}
 use Rattle.repeats.proofs.Starts.{start, start_none, start_lt, start_whole, start_end, start_grows, start_ends}
 use Rattle.repeats.proofs.LeftSeeds.{seed_rests, seed_moves, seed_goes_on, left_bare}
 use Rattle.candidates.specs.declared.Seed.{Seed}
-use Rattle.candidates.specs.Candidates.{Sown, Far}
+use Rattle.candidates.specs.Candidates.{Made, Sown, Far}
 use Rattle.standings.specs.declared.Standing.{Standing}
-use Rattle.standings.specs.Standings.{Bordered, Columns, Goes, Ends, Ended, Turns, Stands, After, no_standing}
+use Rattle.standings.specs.Standings.{Goes, Ends, Ended, Turns, Stands, After}
 
 -- ---- `start_after`
 
@@ -46,7 +38,7 @@ module _ (b : List ℕ) (s : Seed) (len : ℕ) where
 
 -- ---- a row's border
 
-module _ {x b : List ℕ} (h : Bordered x b) where
+module _ {x b t f : List ℕ} (h : Made x b t f) where
   pub border_at : (q : ℕ) → 0 < q → q ≤ length x → get_or b (q - 1) 0 ≡ border eqb x q
   border_at q s l = h.borders.rows (q - 1) (omega arith) ∙ ap (border eqb x) (omega arith)
 
@@ -56,10 +48,10 @@ module _ {x : List ℕ} {j : ℕ} {s : Seed} {b : Found} (g : Goes x j s b) wher
   seed_is : Repeats eqb x j s.len × (s.count ≡ reached eqb x j s.len)
   seed_is = ⊎_elim (λ z. absurd (g.some z.0)) (λ v. v) g.sown.seed.is
 
-  pub start_small : {c : List ℕ} → Bordered x c → s.start < 65536
+  pub start_small : {c t f : List ℕ} → Made x c t f → s.start < 65536
   start_small h = omega (arith, g.sown.starts, start_lt eqb x j s.len seed_is.0.some, seed_is.0.proper, g.ended.inside, h.most)
 
-  pub more_fits : {c : List ℕ} → Bordered x c → Fits w64 (s.count + 1)
+  pub more_fits : {c t f : List ℕ} → Made x c t f → Fits w64 (s.count + 1)
   more_fits h = omega (arith, seed_is.1, reached_le eqb x j s.len, g.ended.inside, h.most)
 
   some_readings : 0 < j
@@ -68,7 +60,10 @@ module _ {x : List ℕ} {j : ℕ} {s : Seed} {b : Found} (g : Goes x j s b) wher
   follows_start : eqb (get_or x (start eqb x j s.len) 0) (get_or x j 0) ≡ true
   follows_start = eq-eqb _ _ (ap (λ (k : ℕ). get_or x k 0) (sym g.sown.starts) ∙ g.follows)
 
-  module _ {m r : Found} (el : m.len ≡ s.len) (ec : m.count ≡ s.count + 1) (o : Better m b r) where
+  module _ {m r : Found} (el : m.len ≡ s.len) (ec : m.count ≡ s.count + 1) (er : r ≡ ord_max by_worth m b) where
+    o : Better m b r
+    o = greater_wins er
+
     on_seed : LeftSeed eqb x (j + 1) r.len r.count
     on_seed = ⊎_elim
         (λ w. rw (w.0, el, ec) (seed_goes_on eqb x eqb_refl g.sown.seed g.ended.best some_readings seed_is.0.some follows_start (rw (el, ec) at w.1)))
@@ -84,7 +79,7 @@ module _ {x : List ℕ} {j : ℕ} {s : Seed} {b : Found} (g : Goes x j s b) wher
     pub on_some : 0 < r.len
     on_some = on_repeats.some
 
-    pub on_within : {c : List ℕ} → Bordered x c → r.len ≤ length c
+    pub on_within : {c t f : List ℕ} → Made x c t f → r.len ≤ length c
     on_within h = omega (arith, on_repeats.proper, g.ended.inside, h.borders.room)
 
     -- a pattern that does not go on with a longer start ends there
@@ -98,7 +93,7 @@ module _ {x : List ℕ} {j : ℕ} {s : Seed} {b : Found} (g : Goes x j s b) wher
         g.ended.best.is))
         o
 
-    pub on_sown : {c : List ℕ} → Bordered x c → (n : ℕ) → After c s r.len n → Sown x (j + 1) (record { len = r.len; count = r.count; start = n })
+    pub on_sown : {c t f : List ℕ} → Made x c t f → (n : ℕ) → After c s r.len n → Sown x (j + 1) (record { len = r.len; count = r.count; start = n })
     on_sown h n a = record {
       seed = on_seed;
       starts = ⊎_elim
@@ -121,7 +116,7 @@ module _ {x : List ℕ} {j : ℕ} {s : Seed} {b : Found} (w : Sown x j s) (e : E
   pub goes : (s.len ≡ 0 → ⊥) → get_or x s.start 0 ≡ get_or x j 0 → Goes x j s b
   goes nz f = record { sown = w; some = nz; follows = f; ended = e }
 
-  pub count_fits : {c : List ℕ} → Bordered x c → Fits w64 (s.count + 1)
+  pub count_fits : {c t f : List ℕ} → Made x c t f → Fits w64 (s.count + 1)
   count_fits h = ⊎_elim (λ z. omega (arith, z.1)) (λ v. omega (arith, v.1, reached_le eqb x j s.len, e.inside, h.most)) w.seed.is
 
   pub ends : s.count + 1 < b.count → Ends x j s b
@@ -136,7 +131,7 @@ module _ {x : List ℕ} {j : ℕ} {s : Seed} {b : Found} (w : Ends x j s b) wher
   pub ends_some : 0 < b.len
   ends_some = ends_here.0
 
-  module _ {c : List ℕ} (h : Bordered x c) where
+  module _ {c t f : List ℕ} (h : Made x c t f) where
     pub ends_within : b.len - 1 < length c
     ends_within = omega (arith, ends_here.1.below, w.ended.inside, h.borders.room)
 
@@ -148,20 +143,20 @@ module _ {x : List ℕ} {j : ℕ} {s : Seed} {b : Found} (w : Ends x j s b) wher
 
 -- ---- `rest`
 
-module _ {x c t f : List ℕ} (h : Columns x c t f) {j : ℕ} {left : Found} {far : ℕ} (w : Turns x j left far) where
+module _ {x c t f : List ℕ} (h : Made x c t f) {j : ℕ} {left : Found} {far : ℕ} (w : Turns x j left far) where
   pub border_in : j < length c
-  border_in = omega (arith, w.inside, h.bordered.borders.room)
+  border_in = omega (arith, w.inside, h.borders.room)
 
   module _ (b : ℕ) (eb : b ≡ get_or c j 0) where
     pub is_border_lem : b ≡ border eqb x (j + 1)
-    is_border_lem = eb ∙ h.bordered.borders.rows j w.inside
+    is_border_lem = eb ∙ h.borders.rows j w.inside
 
     module _ (lt : b < left.len) {l k : List ℕ} (y : Tallies x l k (j + 1)) where
       covers_is : Repeats eqb x (j + 1) left.len × (left.count ≡ covered eqb x (j + 1) left.len)
       covers_is = ⊎_elim (λ z. absurd (omega (arith, z.0))) (λ v. v) w.cover.is
 
       pub left_fits : Fits w64 (left.count + b)
-      left_fits = omega (arith, covers_is.1, covered_le eqb x (j + 1) left.len, is_border_lem, border_lt eqb x (j + 1) (omega arith), w.inside, h.bordered.most)
+      left_fits = omega (arith, covers_is.1, covered_le eqb x (j + 1) left.len, is_border_lem, border_lt eqb x (j + 1) (omega arith), w.inside, h.most)
 
       pub rests_in : left.len - 1 < length l
       rests_in = omega (arith, covers_is.0.proper, w.inside, y.lasts)
@@ -171,7 +166,7 @@ module _ {x c t f : List ℕ} (h : Columns x c t f) {j : ℕ} {left : Found} {fa
 
       module _ (e : ℕ) (ee : e ≡ get_or l (left.len - 1) 0) where
         pub rests_fits : Fits w64 (e + b)
-        rests_fits = omega (arith, ee, tally.within, is_border_lem, border_lt eqb x (j + 1) (omega arith), w.inside, h.bordered.most)
+        rests_fits = omega (arith, ee, tally.within, is_border_lem, border_lt eqb x (j + 1) (omega arith), w.inside, h.most)
 
         pub rests_sown : e + b ≤ j + 1 → Sown x (j + 1) (record { len = left.len; count = left.count + b; start = b })
         rests_sown u = record {
@@ -181,18 +176,18 @@ module _ {x c t f : List ℕ} (h : Columns x c t f) {j : ℕ} {left : Found} {fa
 
 -- ---- `stand`
 
-pub stand_in : {x c t f : List ℕ} {j : ℕ} → Columns x c t f → j < length x → j < length c
-stand_in h l = omega (arith, h.bordered.borders.room)
+pub stand_in : {x c t f : List ℕ} {j : ℕ} → Made x c t f → j < length x → j < length c
+stand_in h l = omega (arith, h.borders.room)
 
 pub ended : {x : List ℕ} {j : ℕ} {p : Pick} → j < length x → Judgement x j 0 p → Ended x j (record { len = p.best; count = p.count })
 ended {x} {j} h g = record { inside = h; best = rw (g.best, g.count) (best_best eqb x (j + 1)) }
 
 module _ {x : List ℕ} {j : ℕ} {s : Standing} {b : Found} (w : Stands x j s) (e : Ended x j b) where
-  next_left : {r : Found} → Better s.left b r → LeftCover eqb x (j + 1) r.len r.count
-  next_left o = ⊎_elim
+  next_left : {r : Found} → r ≡ ord_max by_worth s.left b → LeftCover eqb x (j + 1) r.len r.count
+  next_left er = ⊎_elim
       (λ u. rw u.0 (left_stays eqb x eqb_refl w.left e.best u.1))
       (λ u. rw u.0 (left_moves eqb x eqb_refl w.left e.best u.1))
-      o
+      (greater_wins er)
 
   next_far : (f : ℕ) → f ≡ border eqb x (j + 1) → Far x (j + 1) (max s.far f)
   next_far f d = record {
@@ -208,22 +203,21 @@ module _ {x : List ℕ} {j : ℕ} {s : Standing} {b : Found} (w : Stands x j s) 
         (repeats_step eqb x j q r);
   }
 
-  pub turns : {c t f : List ℕ} → Columns x c t f → {r : Found} → Better s.left b r → (m far : ℕ) → m ≡ get_or c j 0 → far ≡ max s.far m → Turns x j r far
+  pub turns : {c t f : List ℕ} → Made x c t f → {r : Found} → r ≡ ord_max by_worth s.left b → (m far : ℕ) → m ≡ get_or c j 0 → far ≡ max s.far m → Turns x j r far
   turns h o m far d u = record {
     inside = e.inside;
     cover = next_left o;
-    longest = rw u (next_far m (d ∙ h.bordered.borders.rows j e.inside));
+    longest = rw u (next_far m (d ∙ h.borders.rows j e.inside));
   }
 
 pub stands_next : {x : List ℕ} {j : ℕ} {seed : Seed} {left : Found} {far : ℕ} → Sown x (j + 1) seed → Turns x j left far → Stands x (j + 1) (record { seed = seed; left = left; far = far })
 stands_next s t = record { seed = s; left = t.cover; far = t.longest }
 
--- ---- `none`
+-- ---- before the first reading
 
-pub stands_none : (x : List ℕ) {s : Standing} → s ≡ no_standing → Stands x 0 s
-unfolding no_standing
-stands_none x e = rw e (record {
-  seed = record { seed = repeats_zero eqb x 0 (reached eqb x 0) (omega arith); starts = sym (start_none eqb x 0) };
-  left = repeats_zero eqb x 0 (covered eqb x 0) (omega arith);
-  far = record { is = inl refl; most = λ q r. absurd (repeats_none eqb x 0 q (omega arith) r) };
-})
+pub stands_none : (x : List ℕ) {s : Standing} → s.seed.len ≡ 0 → s.seed.count ≡ 0 → s.seed.start ≡ 0 → s.left.len ≡ 0 → s.left.count ≡ 0 → s.far ≡ 0 → Stands x 0 s
+stands_none x sl sk ss ll lk fz = record {
+  seed = record { seed = rw (sl, sk) (repeats_zero eqb x 0 (reached eqb x 0) (omega arith)); starts = rw (ss, sl) (sym (start_none eqb x 0)) };
+  left = rw (ll, lk) (repeats_zero eqb x 0 (covered eqb x 0) (omega arith));
+  far = record { is = inl fz; most = λ q r. absurd (repeats_none eqb x 0 q (omega arith) r) };
+}

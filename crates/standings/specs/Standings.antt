@@ -1,25 +1,11 @@
 -- What the functions of the standings hand each other. Assumes nothing.
 use Rattle.std.specs.Prelude.{◌≡◌, List, ◌⊎◌, ℕ, ◌+◌, ◌-◌, ◌≤◌, ◌<◌, eqb, length, get_or}
-use Rattle.words.specs.Tables.{border_row}
-use Rattle.words.specs.Refusals.{longest}
-use Rattle.words.proofs.Tables.{Holds}
 use Rattle.words.proofs.Bests.{Best}
 use Rattle.repeats.specs.declared.Found.{Found}
 use Rattle.repeats.proofs.LeftCovers.{LeftCover}
 use Rattle.candidates.specs.declared.Seed.{Seed}
-use Rattle.candidates.specs.Candidates.{bare_row, fall_row, Sown, Far}
+use Rattle.candidates.specs.Candidates.{Sown, Far}
 use Rattle.standings.specs.declared.Standing.{Standing}
-
--- the border table of a log that is not too long
-pub record Bordered (x border : List ℕ) : Type 0 where
-  pub most : length x ≤ longest
-  pub borders : Holds border_row x border
-
--- the three columns that every row reads
-pub record Columns (x border bare fall : List ℕ) : Type 0 where
-  pub bordered : Bordered x border
-  pub bares : Holds bare_row x bare
-  pub falls : Holds fall_row x fall
 
 -- b is Best and Count of row j
 pub record Ended (x : List ℕ) (j : ℕ) (b : Found) : Type 0 where
@@ -49,9 +35,6 @@ pub record Stands (x : List ℕ) (i : ℕ) (s : Standing) : Type 0 where
   pub seed : Sown x i s.seed
   pub left : LeftCover eqb x i s.left.len s.left.count
   pub far : Far x i s.far
-
-unfoldable pub no_standing : Standing
-no_standing = record { seed = record { len = 0; count = 0; start = 0 }; left = record { len = 0; count = 0 }; far = 0 }
 
 -- r is one longer than the start of s where that is still shorter than the pattern, which is the same; else the pattern's border
 abbrev pub After : List ℕ → Seed → ℕ → ℕ → Type 0

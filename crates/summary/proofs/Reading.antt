@@ -1,10 +1,5 @@
 -- What the tables say of the whole log is its summary: their last rows, and the lists. Assumes nothing.
-use mathlib.Core.Path.{◌≡◌}
-use mathlib.Core.List.{List}
-use Prim.Native.Nat.{ℕ, ◌+◌, ◌-◌, ◌<◌}
-use native.Mathlib.Omega.{arith}
-use lib.Dec.{eqb}
-use lib.ListN.{length, get_or}
+use Rattle.std.proofs.Common.{◌≡◌, List, ℕ, ◌+◌, ◌-◌, ◌<◌, arith, eqb, length, get_or}
 use Rattle.words.specs.declared.Part.{Part}
 use Rattle.words.specs.declared.Weighed.{Weighed}
 use Rattle.words.specs.Words as Words
@@ -15,8 +10,8 @@ use Rattle.summary.specs.declared.Outline.{Outline}
 use Rattle.summary.specs.Whole.{outline_of, summary_of}
 
 pub summary_is : {x best count : List ℕ} {o : Outline} → 0 < length x → Holds best_row x best → Holds count_row x count → o ≡ outline_of x
-    → record { normal = o.normal; best = get_or best (length x - 1) 0; count = get_or count (length x - 1) 0; covers = o.covers; weighed = o.weighed } ≡ summary_of x
-unfolding summary_of outline_of
+    → record { outline = o; best = get_or best (length x - 1) 0; count = get_or count (length x - 1) 0 } ≡ summary_of x
+unfolding summary_of
 summary_is {x} some b c o =
     let last : length x - 1 + 1 ≡ length x = omega arith in
     rw (o, b.rows (length x - 1) (omega arith), c.rows (length x - 1) (omega arith), last)

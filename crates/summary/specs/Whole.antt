@@ -7,21 +7,15 @@ use Rattle.words.proofs.Tables.{Holds}
 use Rattle.summary.specs.declared.Outline.{Outline}
 use Rattle.summary.specs.declared.Summary.{Summary}
 
-unfoldable pub summary_of : List ℕ → Summary
-summary_of x =
-    let n = length x in
-    record {
-      normal = Words.normal eqb x n;
-      best = Words.best eqb x n;
-      count = Words.count eqb x n;
-      covers = length (Words.cover_list eqb x);
-      weighed = listed 0 (Words.weighed eqb x n) (Words.limit n);
-    }
-
 unfoldable pub outline_of : List ℕ → Outline
 outline_of x =
     let n = length x in
     record { normal = Words.normal eqb x n; covers = length (Words.cover_list eqb x); weighed = listed 0 (Words.weighed eqb x n) (Words.limit n) }
+
+unfoldable pub summary_of : List ℕ → Summary
+summary_of x =
+    let n = length x in
+    record { outline = outline_of x; best = Words.best eqb x n; count = Words.count eqb x n }
 
 -- the tables made
 pub record Made (x best count : List ℕ) : Type 0 where

@@ -9,22 +9,20 @@ ghost use Rattle.words.proofs.Tables.{Room, Holds};
 ghost use Rattle.cover.specs.Tree.{Blank};
 ghost use Rattle.summary.specs.Whole.{outline_of, summary_of, Made};
 
-// The normal form, Best and Count of the whole log, how many covers it has, and its weighed list.
-#[derive(Clone, Copy)]
-pub struct Summary {
-    pub normal: words::Part,
-    pub best: u16,
-    pub count: u16,
-    pub covers: usize,
-    pub weighed: words::Weighed,
-}
-
-// The part of a summary that the border and the cover table say.
+// What the border and the cover table say of the whole log: its normal form, how many covers it has, and its weighed list.
 #[derive(Clone, Copy)]
 pub struct Outline {
     pub normal: words::Part,
     pub covers: usize,
     pub weighed: words::Weighed,
+}
+
+// The outline, and Best and Count of the whole log.
+#[derive(Clone, Copy)]
+pub struct Summary {
+    pub outline: Outline,
+    pub best: u16,
+    pub count: u16,
 }
 
 // Reads the outline off the border and the cover table, and writes the covers, rising, into the first entries of the lent table.
@@ -75,19 +73,15 @@ fn lay(
 }
 
 // Reads off the last rows what is left to say.
-fn read_rest(x: &[u8], best: &[u16], count: &[u16], first: Outline) -> Summary
-    requires { Made x.now best.now count.now × (first ≡ outline_of x.now) × (0 < length x.now) × (length x.now ≤ longest) }
+fn read_rest(x: &[u8], best: &[u16], count: &[u16], outline: Outline) -> Summary
+    requires { Made x.now best.now count.now × (outline ≡ outline_of x.now) × (0 < length x.now) × (length x.now ≤ longest) }
     ensures { result ≡ summary_of x.now }
 {
     let last = x.len() - 1;
-    let normal = first.normal;
-    let weighed = first.weighed;
     Summary {
-        normal: normal,
+        outline,
         best: best[last],
         count: count[last],
-        covers: first.covers,
-        weighed: weighed,
     }
 }
 
@@ -102,7 +96,7 @@ pub fn of(x: &[u8], covers: &mut [u16]) -> Summary
     let mut chain = [0u16; words::LONGEST];
     let mut up = [0u16; words::LONGEST + 1];
     let mut kids = [0u16; words::LONGEST + 1];
-    let first = begin(x, &mut best, &mut chain, &mut up, &mut kids, covers);
+    let outline = begin(x, &mut best, &mut chain, &mut up, &mut kids, covers);
     lay(x, &mut best, &mut count, &mut chain, &mut up, &mut kids);
-    read_rest(x, &best, &count, first)
+    read_rest(x, &best, &count, outline)
 }

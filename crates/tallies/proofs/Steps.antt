@@ -1,16 +1,6 @@
 -- What each way through the functions of a row comes to, on plain lists and numbers. Assumes nothing.
-use mathlib.Core.Path.{◌≡◌, refl, sym, ap, ◌∙◌}
-use mathlib.Core.List.{List}
-use mathlib.Core.Logic.{⊎_elim}
-use Prim.Native.Nat.{ℕ, ◌+◌, ◌-◌, ◌*◌, ◌≤◌, ◌<◌, min}
-use native.Mathlib.Nat.{not-suc-le-zero, lt_of_lt_of_le}
-use native.Mathlib.Omega.{arith}
-use lib.ListN.{length, get_or, set, length-set}
-use lib.Seq.{get_or-set_same, get_or-set_other, set-get_or}
-use lib.Dec.{eqb}
-use mir.Syntax.{w16}
-use mir.Val.{Fits}
-use borrow.Author.Tests.{le-leb, lt-leb}
+use Rattle.std.proofs.Common.{◌≡◌, refl, sym, ap, ◌∙◌, List, ⊎_elim, ℕ, ◌+◌, ◌-◌, ◌*◌, ◌≤◌, ◌<◌, min, not-suc-le-zero, lt_of_lt_of_le, arith, length, get_or, set, length-set, get_or-set_same, get_or-set_other, eqb, w16, Fits}
+use lib.Seq.{set-get_or}
 use Rattle.words.specs.Words.{cover, covered, used}
 use Rattle.words.specs.Tables.{border_row, cover_row}
 use Rattle.words.specs.Refusals.{longest}
@@ -28,15 +18,6 @@ use Rattle.tallies.proofs.Tallies.{round_start, round_weighs, round_last, round_
 -- the entry for the prefix of length q stands at row q - 1
 chain_at : {x v : List ℕ} {j : ℕ} → Filled heaviest_row x v j → (q : ℕ) → 0 < q → q ≤ j → get_or v (q - 1) 0 ≡ heaviest x q
 chain_at {x} k q h l = k.rows (q - 1) (omega arith) ∙ ap (heaviest x) (omega arith)
-
--- ---- `better`
-
-module _ (b : Pick) (w k : ℕ) where
-  pub better_yes : b.count ≤ k → Better b w k (record { best = w; count = k; total = b.total + 1 })
-  better_yes h = record { best = rw (le-leb b.count k h); count = omega arith; total = refl }
-
-  pub better_no : k < b.count → Better b w k (record { best = b.best; count = b.count; total = b.total + 1 })
-  better_no h = record { best = rw (lt-leb b.count k h); count = omega arith; total = refl }
 
 -- ---- `enter` and `tally`
 

@@ -1,13 +1,6 @@
 -- The tallies, carried from j to j + 1 down the weighed borders of the prefix of length j + 1. Assumes nothing.
-use mathlib.Core.Path.{◌≡◌, sym, ◌∙◌}
-use mathlib.Core.List.{List}
-use mathlib.Core.Logic.{inl, inr, ⊎_elim}
-use Prim.Native.Nat.{ℕ, ◌+◌, ◌-◌, ◌≤◌, ◌<◌, min}
-use native.Mathlib.Nat.{eq-or-lt_of_le, add-sub_cancel, sub_self}
-use native.Mathlib.Omega.{arith}
-use lib.ListN.{length, get_or, set, length-set}
-use lib.Seq.{get_or-set_same, get_or-set_other}
-use lib.Dec.{eqb}
+use Rattle.std.proofs.Common.{◌≡◌, sym, ◌∙◌, List, inl, inr, ⊎_elim, ℕ, ◌+◌, ◌-◌, ◌≤◌, ◌<◌, min, eq-or-lt_of_le, add-sub_cancel, arith, length, get_or, set, length-set, get_or-set_same, get_or-set_other, eqb}
+use native.Mathlib.Nat.{sub_self}
 use Rattle.words.specs.Words.{cover, covered}
 use Rattle.words.proofs.Tests.{le_or_lt}
 use Rattle.words.proofs.Occurrences.{Occurs, eqb_refl, occurs_same, occurs_self}

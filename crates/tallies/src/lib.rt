@@ -18,35 +18,29 @@ pub struct Pick {
     pub total: u32,
 }
 
+impl Pick {
+    // Weighs one border more, w, which covers k positions. Of equals it takes w, the shorter. There is room to count those of the rows before and of this one.
+    fn weigh(self, w: usize, k: usize) -> Pick
+        requires { self.total < 2 * most_weighed }
+        ensures { Better self w k result }
+    {
+        Pick {
+            best: if self.count <= k { w } else { self.best },
+            count: self.count.max(k),
+            total: self.total + 1,
+        }
+    }
+}
+
 // The positions covered once a pattern, or a start of it, of length w ends at i, where k were covered up to its last end e.
 pub fn grown(w: usize, i: usize, e: usize, k: usize) -> usize
     requires { (e ≤ i) × (k + i ≤ 65536) }
     ensures { result ≡ k + min w (i - e) }
 {
-    if i - e < w {
-        return k + (i - e);
-    }
-    k + w
+    k + w.min(i - e)
 }
 
-// Weighs one border more, w, which covers k positions. Of equals it takes w, the shorter. There is room to count those of the rows before and of this one.
-fn better(b: Pick, w: usize, k: usize) -> Pick
-    requires { b.total < 2 * most_weighed }
-    ensures { Better b w k result }
-{
-    if b.count <= k {
-        return Pick {
-            best: w,
-            count: k,
-            total: b.total + 1,
-        };
-    }
-    Pick {
-        best: b.best,
-        count: b.count,
-        total: b.total + 1,
-    }
-}
+// The log, its last ends and its counts stay parameters from here on: a type that holds `Tallies` would be broken, a `Round`, in every step of a row.
 
 // The new prefix, of length j + 1, has no proper cover: it ends at its own end and covers all of itself.
 fn enter(x: &[u8], last: &mut [u16], held: &mut [u16], j: usize)
@@ -65,9 +59,9 @@ fn place(x: &[u8], last: &mut [u16], held: &mut [u16], j: usize, c: u16)
 {
     if c != 0 {
         last[j] = 0;
-        return;
+    } else {
+        enter(x, last, held, j);
     }
-    enter(x, last, held, j);
 }
 
 // Row j of a prefix that has no border, and so no proper cover: nothing is weighed.
@@ -79,7 +73,7 @@ fn alone(x: &[u8], last: &mut [u16], held: &mut [u16], j: usize, total: u32) -> 
     Pick {
         best: 0,
         count: 0,
-        total: total,
+        total,
     }
 }
 
@@ -88,8 +82,8 @@ fn tally(x: &[u8], last: &mut [u16], held: &mut [u16], j: usize, w: usize) -> us
     requires { Round x.now last.old held.old j w × (length x.now ≤ Refusals.longest) × (0 < w) }
     ensures { Round x.now last.new held.new j (Weighs.heaviest x.now w) × (result ≡ covered eqb x.now (j + 1) w) }
 {
-    let e = words::wide(last[w - 1]);
-    let c = words::wide(held[w - 1]);
+    let e = usize::from(last[w - 1]);
+    let c = usize::from(held[w - 1]);
     let k = grown(w, j + 1, e, c);
     last[w - 1] = (j + 1) as u16;
     held[w - 1] = k as u16;
@@ -112,13 +106,13 @@ fn weigh(
     let mut b = Pick {
         best: 0,
         count: 0,
-        total: total,
+        total,
     };
     let mut w = longest;
     while w != 0 {
         let k = tally(x, last, held, j, w);
-        b = better(b, w, k);
-        w = words::wide(chain[w - 1]);
+        b = b.weigh(w, k);
+        w = usize::from(chain[w - 1]);
     }
     b
 }
@@ -129,9 +123,10 @@ fn heaviest(x: &[u8], chain: &[u16], last: &[u16], j: usize, b: usize) -> usize
     ensures { result ≡ heaviest_row x.now j }
 {
     if last[b - 1] != 0 {
-        return b;
+        b
+    } else {
+        usize::from(chain[b - 1])
     }
-    words::wide(chain[b - 1])
 }
 
 // Row j, whose border is b: its entry of the chain is laid over its cover, and its weighed borders are tallied. `total` were weighed in the rows before.

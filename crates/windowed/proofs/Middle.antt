@@ -1,10 +1,5 @@
 -- A middle part of a table, as the code cuts it: what is written there, seen in the whole table. Assumes nothing.
-use mathlib.Core.Path.{◌≡◌, ap, ◌∙◌}
-use mathlib.Core.List.{List, [], ◌++◌, append-nil}
-use Prim.Native.Nat.{ℕ, ◌+◌, ◌-◌, ◌≤◌}
-use native.Mathlib.Omega.{arith}
-use lib.Dec.{eqb}
-use lib.ListN.{length, take, drop, drop_of_length-le}
+use Rattle.std.proofs.Common.{◌≡◌, ap, ◌∙◌, List, [], ◌++◌, append-nil, ℕ, ◌+◌, ◌-◌, ◌≤◌, arith, eqb, length, take, drop, drop_of_length-le}
 use Rattle.words.specs.Words.{total}
 use Rattle.words.specs.Tables.{Column, written, window, placed}
 use Rattle.words.specs.Refusals.{longest}

@@ -6,6 +6,8 @@ ghost use Rattle.words.specs.Words as Words;
 ghost use Rattle.words.specs.Tables.{border_row, prefix_row, cover_row, best_row, count_row, window, placed};
 ghost use Rattle.windowed.specs.Within.{Within};
 
+// The tables stay five parameters, as C lends them: of one type a clause would say `tables.exit.border.now` for `border.new`, and so for each of the five.
+
 // Writes the five columns of the window of m readings after the first a into the m rows after the first a, and returns its weighed total.
 pub fn rows(
     x: &[u8],

@@ -1,5 +1,5 @@
 -- `candidates::bare_at` meets its contract. Assumes nothing.
-use borrow.Author.Rules.{rules}
+use Rattle.std.proofs.Common.{rules}
 use Rattle.candidates.proofs.Steps.{bare_first, in_cover, in_bare, bare_yes, bare_no}
 use Rattle.candidates.proofs.bare_at.Goals as goal
 
@@ -21,5 +21,5 @@ offset_bounds-bare-r c = search (rules, in_bare)
 pub bounds-bare-r : goal.bounds-bare-r
 bounds-bare-r c = search in_bare
 
-pub returns : goal.returns
-returns c = search bare_no
+pub returns-else-cover-r-eq0 : goal.returns-else-cover-r-eq0
+returns-else-cover-r-eq0 c = search bare_no

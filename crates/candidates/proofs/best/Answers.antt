@@ -1,31 +1,31 @@
 -- `candidates::best` meets its contract. The loop's invariant is `Walk`, its measure q. Assumes nothing.
-use borrow.Author.Rules.{rules}
+use Rattle.std.proofs.Common.{rules}
 use Rattle.candidates.proofs.Steps.{far_in, walk_first, walk_some, walk_ready, walk_bare, in_next, walk_falls, walk_next, walk_done}
 use Rattle.candidates.proofs.best.Goals as goal
 
-pub offset_bounds-bare-far : goal.offset_bounds-bare-far
-offset_bounds-bare-far c = search (rules, far_in)
+pub offset_bounds-row-far : goal.offset_bounds-row-far
+offset_bounds-row-far c = search (rules, far_in)
 
-pub bounds-bare-far : goal.bounds-bare-far
-bounds-bare-far c = search far_in
+pub bounds-row-far : goal.bounds-row-far
+bounds-row-far c = search far_in
 
 pub loop-q-init : goal.loop-q-init
 loop-q-init c = search walk_first
 
 pub start_of-m-requires : goal.start_of-m-requires
-start_of-m-requires c = (search rules, search walk_ready, search rules, search rules, search walk_some)
+start_of-m-requires c = (search walk_ready, search walk_some)
 
 pub weighed-s-requires : goal.weighed-s-requires
-weighed-s-requires c = (search rules, search walk_bare, search rules, search rules, search rules)
+weighed-s-requires c = (search walk_bare, search rules)
 
 pub overflow_sub-q : goal.overflow_sub-q
 overflow_sub-q c = search (rules, walk_some)
 
-pub offset_bounds-bare-q : goal.offset_bounds-bare-q
-offset_bounds-bare-q c = search (rules, in_next)
+pub offset_bounds-row-q : goal.offset_bounds-row-q
+offset_bounds-row-q c = search (rules, in_next)
 
-pub bounds-bare-q : goal.bounds-bare-q
-bounds-bare-q c = search in_next
+pub bounds-row-q : goal.bounds-row-q
+bounds-row-q c = search in_next
 
 pub loop-q-smaller : goal.loop-q-smaller
 loop-q-smaller c = search walk_falls

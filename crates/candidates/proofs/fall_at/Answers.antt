@@ -1,5 +1,5 @@
 -- `candidates::fall_at` meets its contract. Assumes nothing.
-use borrow.Author.Rules.{rules}
+use Rattle.std.proofs.Common.{rules}
 use Rattle.candidates.proofs.Steps.{fall_first, in_border, in_fall, fall_yes, fall_no}
 use Rattle.candidates.proofs.fall_at.Goals as goal
 
@@ -21,5 +21,5 @@ offset_bounds-fall-b c = search (rules, in_fall)
 pub bounds-fall-b : goal.bounds-fall-b
 bounds-fall-b c = search in_fall
 
-pub returns : goal.returns
-returns c = search fall_no
+pub returns-else-b-q : goal.returns-else-b-q
+returns-else-b-q c = search fall_no

@@ -1,5 +1,5 @@
--- `candidates::rows` meets its contract. The loop's invariant: both tables have their first r rows written; its measure is what is left of x. Assumes nothing.
-use borrow.Author.Rules.{rules}
+-- `candidates::rows` meets its contract. The loop's invariant: both tables have their first r rows written. Assumes nothing.
+use Rattle.std.proofs.Common.{rules}
 use Rattle.words.proofs.Tables.{rows_none, rows_length, rows_inside, rows_filled, rows_more, rows_done}
 use Rattle.candidates.specs.Candidates.{bare_row, fall_row}
 use Rattle.candidates.proofs.Steps.{bare_fits, fall_fits}

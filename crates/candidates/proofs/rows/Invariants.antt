@@ -1,12 +1,7 @@
--- `candidates::rows` meets its contract. The loop's invariant: both tables have their first r rows written; its measure is what is left of x. Assumes nothing.
-use Prim.Native.Nat.{◌-◌}
-use lib.ListN.{length}
+-- `candidates::rows` meets its contract. The loop's invariant: both tables have their first r rows written. Assumes nothing.
 use Rattle.words.proofs.Tables.{Rows}
 use Rattle.candidates.specs.Candidates.{bare_row, fall_row}
 use Rattle.candidates.proofs.rows.Given as goal
 
 abbrev pub invariant-loop-r : goal.invariant-loop-r
 invariant-loop-r l = Rows bare_row l.x l.initial.bare l.bare l.r × Rows fall_row l.x l.initial.fall l.fall l.r
-
-abbrev pub decreases-loop-r : goal.decreases-loop-r
-decreases-loop-r l = length l.x - l.r

@@ -1,7 +1,6 @@
 -- `enhanced::rows` meets its contract. The loop's invariant: below j the rows of `best`, `count` and `chain` are Best, Count and the chain, from j on those of
--- `best` are still borders and those of `chain` covers; last and held have the tallies of the first j prefixes, and sum is the total of the first j rows. The
--- measure is what is left of x. Assumes nothing.
-use borrow.Author.Rules.{rules}
+-- `best` are still borders and those of `chain` covers; last and held have the tallies of the first j prefixes, and sum is the total of the first j rows. Assumes nothing.
+use Rattle.std.proofs.Common.{rules}
 use Rattle.words.specs.Tables.{border_row, best_row, count_row}
 use Rattle.words.proofs.Tables.{rows_none, rows_length, rows_inside, rows_filled, rows_more, rows_done, rows_under}
 use Rattle.words.proofs.Weighs.{heaviest_row}

@@ -1,5 +1,5 @@
 -- `five_columns::rows` meets its contract. Assumes nothing.
-use borrow.Author.Rules.{rules}
+use Rattle.std.proofs.Common.{rules}
 use Rattle.words.specs.Tables.{prefix_row}
 use Rattle.words.proofs.Tables.{laid_over}
 use Rattle.words.proofs.Weighs.{heaviest_row}

@@ -1,5 +1,5 @@
 -- `five_columns::weighed_beside` meets its contract. Assumes nothing.
-use borrow.Author.Rules.{rules}
+use Rattle.std.proofs.Common.{rules}
 use Rattle.words.specs.Tables.{border_row, cover_row, best_row}
 use Rattle.words.proofs.Tables.{written_holds, laid_over}
 use Rattle.words.proofs.Weighs.{heaviest_row}

@@ -1,7 +1,5 @@
 -- `left_covers::run` meets its contract. The loop's invariant: both tables have their first r rows written, and `left` is the left cover of the first r
--- readings. The measure is what is left of x. Assumes nothing.
-use Prim.Native.Nat.{◌-◌}
-use lib.ListN.{length}
+-- readings. Assumes nothing.
 use Rattle.words.proofs.Tables.{Rows}
 use Rattle.repeats.specs.Repeats.{left_cover_row, left_count_row}
 use Rattle.left_covers.proofs.Steps.{Left}
@@ -9,6 +7,3 @@ use Rattle.left_covers.proofs.run.Given as goal
 
 abbrev pub invariant-loop-r : goal.invariant-loop-r
 invariant-loop-r l = Rows left_cover_row l.x l.initial.best l.best l.r × Rows left_count_row l.x l.initial.count l.count l.r × Left l.x l.r l.left
-
-abbrev pub decreases-loop-r : goal.decreases-loop-r
-decreases-loop-r l = length l.x - l.r

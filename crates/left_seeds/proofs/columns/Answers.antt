@@ -1,5 +1,5 @@
 -- `left_seeds::columns` meets its contract. Assumes nothing.
-use borrow.Author.Rules.{rules}
+use Rattle.std.proofs.Common.{rules}
 use Rattle.words.specs.Tables.{border_row, cover_row}
 use Rattle.left_seeds.proofs.Steps.{room_holds, columns_made}
 use Rattle.left_seeds.proofs.columns.Goals as goal

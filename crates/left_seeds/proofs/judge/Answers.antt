@@ -1,6 +1,6 @@
 -- `left_seeds::judge` meets its contract. The loop's invariant: below j the rows of both tables are written and those of `chain` are the
--- chain's, from j on those of `chain` are still covers; last and held have the tallies of the first j prefixes, and s is how the first j readings stand. The measure is what is left of x. Assumes nothing.
-use borrow.Author.Rules.{rules}
+-- chain's, from j on those of `chain` are still covers; last and held have the tallies of the first j prefixes, and s is how the first j readings stand. Assumes nothing.
+use Rattle.std.proofs.Common.{rules}
 use Rattle.words.proofs.Tables.{rows_none, rows_length, rows_inside, rows_filled, rows_more, rows_done}
 use Rattle.tallies.proofs.Steps.{first_tallies, still_cover, chain_more}
 use Rattle.repeats.specs.Repeats.{left_seed_row, seed_count_row}
@@ -12,16 +12,16 @@ pub loop-j-init : goal.loop-j-init
 loop-j-init c = (search rows_none, search rows_none, search rows_none, search first_tallies, search stands_none, search rules, search rules, search rules)
 
 pub row-s-requires : goal.row-s-requires
-row-s-requires c = (search rules, search rows_filled, search still_cover, search rules, search rules)
+row-s-requires c = (search rows_filled, search still_cover, search rules, search rules)
 
 pub overflow_cast-best : goal.overflow_cast-best
-overflow_cast-best c = search (seed_fits, reach_fits)
+overflow_cast-best c = search seed_fits
 
 pub bounds-best-j : goal.bounds-best-j
 bounds-best-j c = search rows_inside
 
 pub overflow_cast-count : goal.overflow_cast-count
-overflow_cast-count c = search (seed_fits, reach_fits)
+overflow_cast-count c = search reach_fits
 
 pub bounds-count-j : goal.bounds-count-j
 bounds-count-j c = search rows_inside

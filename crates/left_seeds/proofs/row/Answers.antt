@@ -1,5 +1,5 @@
 -- `left_seeds::row` meets its contract. Assumes nothing.
-use borrow.Author.Rules.{rules}
+use Rattle.std.proofs.Common.{rules}
 use Rattle.words.specs.Tables.{border_row}
 use Rattle.words.proofs.Tables.{holds_row}
 use Rattle.left_seeds.proofs.row.Goals as goal

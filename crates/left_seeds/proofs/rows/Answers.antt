@@ -1,5 +1,5 @@
 -- `left_seeds::rows` meets its contract. Assumes nothing.
-use borrow.Author.Rules.{rules}
+use Rattle.std.proofs.Common.{rules}
 use Rattle.bases.proofs.Work.{work_blank}
 use Rattle.left_seeds.proofs.rows.Goals as goal
 

@@ -1,16 +1,15 @@
 -- `standings::next` meets its contract. Assumes nothing.
-use borrow.Author.Rules.{rules}
 use Rattle.standings.proofs.Steps.{goes_inside, goes, count_fits, ends}
 use Rattle.standings.proofs.next.Goals as goal
 
-pub bounds-x-at : goal.bounds-x-at
-bounds-x-at c = search goes_inside
+pub bounds-x-s : goal.bounds-x-s
+bounds-x-s c = search goes_inside
 
 pub on-requires : goal.on-requires
-on-requires c = (search rules, search goes)
+on-requires c = search goes
 
 pub overflow_add-s : goal.overflow_add-s
 overflow_add-s c = search count_fits
 
 pub ending-requires : goal.ending-requires
-ending-requires c = (search rules, search ends)
+ending-requires c = search ends

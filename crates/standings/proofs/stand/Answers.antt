@@ -1,16 +1,16 @@
 -- `standings::stand` meets its contract. Assumes nothing.
-use borrow.Author.Rules.{rules}
+use Rattle.std.proofs.Common.{rules}
 use Rattle.standings.proofs.Steps.{ended, stand_in, turns, stands_next}
 use Rattle.standings.proofs.stand.Goals as goal
 
-pub offset_bounds-border-j : goal.offset_bounds-border-j
-offset_bounds-border-j c = search (rules, stand_in)
+pub offset_bounds-row-row : goal.offset_bounds-row-row
+offset_bounds-row-row c = search (rules, stand_in)
 
-pub bounds-border-j : goal.bounds-border-j
-bounds-border-j c = search stand_in
+pub bounds-row-row : goal.bounds-row-row
+bounds-row-row c = search stand_in
 
 pub next-seed-requires : goal.next-seed-requires
-next-seed-requires c = (search rules, search rules, search rules, search ended, search (turns, ended))
+next-seed-requires c = (search rules, search ended, search (turns, ended))
 
 pub returns : goal.returns
 returns c = search (stands_next, turns, ended)

@@ -1,5 +1,5 @@
 -- `summary::begin` meets its contract. Assumes nothing.
-use borrow.Author.Rules.{rules}
+use Rattle.std.proofs.Common.{rules}
 use Rattle.words.specs.Tables.{border_row, cover_row}
 use Rattle.words.proofs.Tables.{written_holds}
 use Rattle.summary.proofs.begin.Goals as goal

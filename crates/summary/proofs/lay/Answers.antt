@@ -1,5 +1,5 @@
 -- `summary::lay` meets its contract. Assumes nothing.
-use borrow.Author.Rules.{rules}
+use Rattle.std.proofs.Common.{rules}
 use Rattle.words.specs.Tables.{best_row, count_row}
 use Rattle.words.proofs.Tables.{written_holds}
 use Rattle.summary.proofs.lay.Goals as goal

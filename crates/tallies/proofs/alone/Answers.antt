@@ -1,5 +1,5 @@
 -- `tallies::alone` meets its contract. Assumes nothing.
-use borrow.Author.Rules.{rules}
+use Rattle.std.proofs.Common.{rules}
 use Rattle.tallies.proofs.Steps.{alone_cover, alone_tallies, alone_judged}
 use Rattle.tallies.proofs.alone.Goals as goal
 

@@ -1,5 +1,5 @@
 -- `tallies::enter` meets its contract. Assumes nothing.
-use borrow.Author.Rules.{rules}
+use Rattle.std.proofs.Common.{rules}
 use Rattle.tallies.proofs.Steps.{enter_round}
 use Rattle.tallies.proofs.enter.Goals as goal
 

@@ -1,5 +1,5 @@
 -- `tallies::heaviest` meets its contract. Assumes nothing.
-use borrow.Author.Rules.{rules}
+use Rattle.std.proofs.Common.{rules}
 use Rattle.tallies.proofs.Steps.{in_last, in_chain, flagged_border, covered_border}
 use Rattle.tallies.proofs.heaviest.Goals as goal
 
@@ -18,5 +18,5 @@ offset_bounds-chain-b c = search (rules, in_chain)
 pub bounds-chain-b : goal.bounds-chain-b
 bounds-chain-b c = search in_chain
 
-pub returns : goal.returns
-returns c = search covered_border
+pub returns-else-last-b-ne0 : goal.returns-else-last-b-ne0
+returns-else-last-b-ne0 c = search covered_border

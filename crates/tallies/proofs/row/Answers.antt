@@ -1,5 +1,5 @@
 -- `tallies::row` meets its contract. Assumes nothing.
-use borrow.Author.Rules.{rules}
+use Rattle.std.proofs.Common.{rules}
 use Rattle.words.proofs.Borders.{border_fits}
 use Rattle.tallies.proofs.Tallies.{tallies_flags}
 use Rattle.tallies.proofs.Steps.{alone_laid, chain_fits, chain_laid, chain_set, own_round}

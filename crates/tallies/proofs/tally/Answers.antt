@@ -1,5 +1,5 @@
 -- `tallies::tally` meets its contract. Assumes nothing.
-use borrow.Author.Rules.{rules}
+use Rattle.std.proofs.Common.{rules}
 use Rattle.tallies.proofs.Steps.{tally_early, tally_small, tally_count, tally_fits, tally_round}
 use Rattle.tallies.proofs.tally.Goals as goal
 
@@ -10,4 +10,4 @@ pub overflow_cast-held : goal.overflow_cast-held
 overflow_cast-held c = search tally_fits
 
 pub returns : goal.returns
-returns c = (tally_round c.requires.0 (search rules) _ _ c.wide-e.ensures c.wide-c.ensures _ c.grown-k.ensures, search tally_count)
+returns c = (tally_round c.requires.0 (search rules) _ _ c.from-e.ensures c.from-c.ensures _ c.grown-k.ensures, search tally_count)

@@ -1,6 +1,5 @@
 -- `tallies::weigh` meets its contract. The loop's invariant is `Round` and `Way`, and that l and h keep their lengths; its measure is w. Assumes nothing.
-use mathlib.Core.Path.{◌≡◌}
-use lib.ListN.{length}
+use Rattle.std.proofs.Common.{◌≡◌, length}
 use Rattle.tallies.specs.Tallies.{Round}
 use Rattle.tallies.proofs.Steps.{Way}
 use Rattle.tallies.proofs.weigh.Given as goal
