@@ -58,9 +58,9 @@ impl<'a> Text<'a> {
     }
 
     // Puts a number's digits.
-    fn number(&mut self, n: usize)
+    pub fn number(&mut self, n: usize)
         requires { Lines.Fits self.old (length (Lines.decimal n)) }
-        ensures said { self.new.said ≡ self.old.said ++ (Lines.decimal n) }
+        ensures said { self.new.said ≡ self.old.said ++ Lines.decimal n }
         ensures room { self.new.room ≡ self.old.room }
         ensures short { length self.new.said ≤ length self.old.said + Lines.decimal_room }
     {
@@ -70,9 +70,9 @@ impl<'a> Text<'a> {
     }
 
     // Puts a space and a number.
-    fn field(&mut self, n: usize)
+    pub fn field(&mut self, n: usize)
         requires { Lines.Fits self.old (1 + length (Lines.decimal n)) }
-        ensures said { self.new.said ≡ self.old.said ++ (Lines.field n) }
+        ensures said { self.new.said ≡ self.old.said ++ Lines.field n }
         ensures room { self.new.room ≡ self.old.room }
         ensures short { length self.new.said ≤ length self.old.said + 1 + Lines.decimal_room }
     {
@@ -83,7 +83,7 @@ impl<'a> Text<'a> {
     // Puts a space and an entry, for each entry of t.
     fn fields(&mut self, t: &[u16])
         requires { Lines.Fits self.old (Lines.field_room * length t.now) }
-        ensures said { self.new.said ≡ self.old.said ++ (Lines.fields t.now) }
+        ensures said { self.new.said ≡ self.old.said ++ Lines.fields t.now }
         ensures room { self.new.room ≡ self.old.room }
         ensures short { length self.new.said ≤ length self.old.said + Lines.field_room * length t.now }
     {
@@ -93,7 +93,7 @@ impl<'a> Text<'a> {
     }
 
     // Ends the line.
-    fn end(&mut self)
+    pub fn end(&mut self)
         requires { Lines.Fits self.old 1 }
         ensures said { self.new.said ≡ self.old.said ++ 10 ∷ [] }
         ensures room { self.new.room ≡ self.old.room }
@@ -105,7 +105,7 @@ impl<'a> Text<'a> {
     // Puts the entries of t, and ends the line.
     fn tail(&mut self, t: &[u16])
         requires { Lines.Fits self.old (Lines.field_room * length t.now + 1) }
-        ensures said { self.new.said ≡ self.old.said ++ (Lines.tail t.now) }
+        ensures said { self.new.said ≡ self.old.said ++ Lines.tail t.now }
         ensures room { self.new.room ≡ self.old.room }
         ensures short { length self.new.said ≤ length self.old.said + Lines.field_room * length t.now + 1 }
     {
@@ -118,7 +118,7 @@ impl<'a> Text<'a> {
     // A word and the entries of t.
     pub fn line(&mut self, w: &[u8], t: &[u16])
         requires { Lines.Fits self.old (length w.now + Lines.field_room * length t.now + 1) }
-        ensures said { self.new.said ≡ self.old.said ++ (Lines.line w.now t.now) }
+        ensures said { self.new.said ≡ self.old.said ++ Lines.line w.now t.now }
         ensures room { self.new.room ≡ self.old.room }
         ensures short { length self.new.said ≤ length self.old.said + length w.now + Lines.field_room * length t.now + 1 }
     {
@@ -126,21 +126,10 @@ impl<'a> Text<'a> {
         self.tail(t);
     }
 
-    // A number and the entries of t.
-    pub fn numbered(&mut self, n: usize, t: &[u16])
-        requires { Lines.Fits self.old (Lines.decimal_room + Lines.field_room * length t.now + 1) }
-        ensures said { self.new.said ≡ self.old.said ++ (Lines.line (Lines.decimal n) t.now) }
-        ensures room { self.new.room ≡ self.old.room }
-        ensures short { length self.new.said ≤ length self.old.said + Lines.decimal_room + Lines.field_room * length t.now + 1 }
-    {
-        self.number(n);
-        self.tail(t);
-    }
-
     // A word and one number of any size.
     pub fn counted(&mut self, w: &[u8], n: usize)
         requires { Lines.Fits self.old (length w.now + 1 + Lines.decimal_room + 1) }
-        ensures said { self.new.said ≡ self.old.said ++ (Lines.line w.now (n ∷ [])) }
+        ensures said { self.new.said ≡ self.old.said ++ Lines.line w.now (n ∷ []) }
         ensures room { self.new.room ≡ self.old.room }
         ensures short { length self.new.said ≤ length self.old.said + length w.now + 1 + Lines.decimal_room + 1 }
     {
