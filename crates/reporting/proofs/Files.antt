@@ -1,5 +1,5 @@
 -- The two ways of a file's text. Assumes nothing.
-use Rattle.std.proofs.Common.{◌≡◌, ℕ, List, ◌++◌, sym, ◌∙◌, ap}
+use Rattle.std.proofs.Common.{◌≡◌, ℕ, List, sym, ◌∙◌, ap}
 use Rattle.words.specs.PlantFile as F
 use Rattle.words.proofs.Refusals.{answer_yes, answer_no}
 use Rattle.refusals.specs.declared.Refusal.{Refusal}

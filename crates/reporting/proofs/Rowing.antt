@@ -1,5 +1,5 @@
 -- The rows put one behind the other, and that they are those of the columns. Assumes nothing.
-use Rattle.std.proofs.Common.{eqb, take, take_all, ◌≡◌, ℕ, zero, suc, ◌+◌, ◌*◌, ◌≤◌, ◌<◌, List, [], ◌∷◌, ◌++◌, map, length, get_or, refl, sym, ◌∙◌, ap, ap₂, arith, add-one, append_assoc, append-nil}
+use Rattle.std.proofs.Common.{eqb, take_all, ◌≡◌, ℕ, zero, suc, ◌+◌, ◌*◌, ◌≤◌, ◌<◌, List, [], ◌∷◌, ◌++◌, map, length, get_or, refl, sym, ◌∙◌, ap, ap₂, arith, add-one, append_assoc, append-nil}
 use Rattle.std.proofs.lemmas.List.{get_or-map, length-map}
 use Rattle.std.specs.Borrow.{Bor}
 use Rattle.words.specs.Tables.{Column}
@@ -21,7 +21,7 @@ get_or_entries ts r i d h = get_or-map (λ (t : Bor (List ℕ)). get_or t.now r 
 
 -- the entry of column i
 module _ (ts : List (Bor (List ℕ))) (r : ℕ) {before after : Page} {i n : ℕ} (c : Listed (entries ts r) before after i) (d : Bor (List ℕ)) (e : n ≡ get_or (get_or ts i d).now r 0)
-  (s : n < 65536) (h : i < length ts) where
+    (s : n < 65536) (h : i < length ts) where
   pub entry_room : length before.said + field_room * length ts ≤ before.room → length after.said + (1 + length (decimal n)) ≤ after.room
   entry_room l = listed_room c (e ∙ sym (get_or_entries ts r i d h)) s (rw length_entries h) (rw length_entries l)
 
@@ -73,14 +73,18 @@ held_row [] x (t ∷ ts) r h l = absurd h
 held_row (f ∷ cs) x [] r h l = absurd h
 held_row (f ∷ cs) x (t ∷ ts) r h l = ap₂ ◌∷◌ (h.0.rows r l) (held_row cs x ts r h.1 l)
 
-pub held_rows : (cs : List Column) (x : List ℕ) (ts : List (Bor (List ℕ))) (r : ℕ) → Held cs x ts → r ≤ length x → table_lines ts r ≡ row_lines cs x r
+held_rows : (cs : List Column) (x : List ℕ) (ts : List (Bor (List ℕ))) (r : ℕ) → Held cs x ts → r ≤ length x → table_lines ts r ≡ row_lines cs x r
 unfolding table_lines row_lines row_line
 held_rows cs x ts zero h l = refl
 held_rows cs x ts (suc r) h l = rw (held_rows cs x ts r h (omega arith), held_row cs x ts r h (omega arith)) refl
+
+-- what `rows` puts of the columns of a log
+pub rows_said : (cs : List Column) (a x : List ℕ) (ts : List (Bor (List ℕ))) {b : List ℕ} → b ≡ a ++ table_lines ts (length x) → Held cs x ts → b ≡ a ++ row_lines cs x (length x)
+rows_said cs a x ts p h = rw (p, held_rows cs x ts (length x) h (omega arith)) refl
 
 -- ---- `put`
 
 pub total_said : (a x : List ℕ) (ts : List (Bor (List ℕ))) {b e : List ℕ} {n : ℕ} → b ≡ a ++ table_lines ts (length x) → Held five x ts → n ≡ total eqb x
     → e ≡ b ++ line (bytes "total") (n ∷ []) → e ≡ a ++ rows_text x
 unfolding rows_text
-total_said a x ts p h n q = rw (q, p, held_rows five x ts (length x) h (omega arith), n, append_assoc) refl
+total_said a x ts p h n q = rw (q, rows_said five a x ts p h, n, append_assoc) refl

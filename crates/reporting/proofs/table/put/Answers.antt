@@ -1,5 +1,4 @@
 -- `reporting::table::put` meets its contract. Assumes nothing.
-use Rattle.std.proofs.Common.{rules}
 use Rattle.words.specs.Tables.{border_row, prefix_row, cover_row, best_row, count_row}
 use Rattle.bases.proofs.Work.{work_holds}
 use Rattle.reporting.proofs.Rowing.{total_said}
