@@ -1,5 +1,5 @@
 -- The text of the report. Assumes nothing.
-use Rattle.std.specs.Prelude.{◌≡◌, List, [], ◌∷◌, ◌++◌, ℕ, ◌+◌, ◌*◌, ◌≤◌, eqb, length}
+use Rattle.std.specs.Prelude.{◌≡◌, List, [], ◌∷◌, ◌++◌, ℕ, ◌+◌, ◌*◌, eqb, length}
 use Rattle.words.specs.declared.Part.{Part}
 use Rattle.words.specs.Words as W
 use Rattle.words.specs.Refusals.{longest}
@@ -9,7 +9,7 @@ use Rattle.ceilings.specs.declared.Ceiling.{Ceiling}
 use Rattle.ceilings.specs.Ceilings.{ceiling_of}
 use Rattle.summary.specs.declared.Summary.{Summary}
 use Rattle.summary.specs.Whole.{summary_of}
-use Rattle.lines.specs.Text.{bytes, field_room, line}
+use Rattle.lines.specs.Text.{bytes, field_room, line, Page, Fits}
 
 -- the text on a refused file: its number
 unfoldable pub refused_text : ℕ → List ℕ
@@ -42,9 +42,9 @@ abbrev pub report_room : ℕ
 report_room = 6 * line_room weighed_places + line_room longest
 
 -- what is put of an accepted log x, and the room for it
-pub record Facts (x : List ℕ) (s : Summary) (covers weighed text : List ℕ) : Type 0 where
+pub record Facts (x : List ℕ) (s : Summary) (covers weighed : List ℕ) (text : Page) : Type 0 where
   pub judged : Judged (length x)
   pub summed : s ≡ summary_of x
   pub covered : covers ≡ W.cover_list eqb x
   pub weighs : weighed ≡ W.weighed eqb x (length x)
-  pub room : report_room ≤ length text
+  pub room : Fits text report_room

@@ -1,11 +1,12 @@
 -- The texts that the programs `report` and `rows` write. Assumes nothing.
-use Rattle.std.specs.Prelude.{List, [], ◌∷◌, ◌++◌, map, ℕ, zero, suc, ◌+◌, ◌*◌, ◌≤◌, ◌<◌, eqb, length}
+use Rattle.std.specs.Prelude.{List, [], ◌∷◌, ◌++◌, map, ℕ, zero, suc, ◌+◌, ◌*◌, ◌≤◌, ◌<◌, eqb, length, slice_index}
+use Rattle.std.specs.Borrow.{Bor}
+use Rattle.std.specs.List.{slice_index_or}
 use Rattle.words.specs.Words.{total}
 use Rattle.words.specs.Tables.{Column, border_row, prefix_row, cover_row, best_row, count_row}
 use Rattle.words.specs.Refusals.{longest}
 use Rattle.words.specs.Answers.{answer}
 use Rattle.words.specs.PlantFile.{file_no, symbols}
-use Rattle.words.proofs.Tables.{Holds}
 use Rattle.lines.specs.Text.{bytes, decimal, line, decimal_room, field_room}
 use Rattle.facts.specs.Report.{refused_text}
 
@@ -35,22 +36,16 @@ row_room = decimal_room + field_room * 5 + 1
 abbrev pub rows_room : ℕ
 rows_room = row_room * (longest + 1)
 
--- five tables that have a row r, and room for its line behind the first `at` bytes
-pub record Row (r : ℕ) (border prefix cover best count text : List ℕ) (at : ℕ) : Type 0 where
-  pub most : r < longest
-  pub borders : r < length border
-  pub prefixes : r < length prefix
-  pub covers : r < length cover
-  pub bests : r < length best
-  pub counts : r < length count
-  pub room : at + row_room ≤ length text
+-- what the tables ts have in row r, and a line for each of the first rows, with its number before it
+unfoldable pub entries : List (Bor (List ℕ)) → ℕ → List ℕ
+entries ts r = map (λ t. slice_index t.now r) ts
 
--- the five tables of a log x, and room for the text
-pub record Columns (x border prefix cover best count text : List ℕ) : Type 0 where
-  pub most : length x ≤ longest
-  pub borders : Holds border_row x border
-  pub prefixes : Holds prefix_row x prefix
-  pub covers : Holds cover_row x cover
-  pub bests : Holds best_row x best
-  pub counts : Holds count_row x count
-  pub room : rows_room ≤ length text
+unfoldable pub table_lines : List (Bor (List ℕ)) → ℕ → List ℕ
+table_lines ts zero = []
+table_lines ts (suc r) = table_lines ts r ++ line (decimal (r + 1)) (entries ts r)
+
+-- no more than five tables, each with n rows
+pub record Tables (ts : List (Bor (List ℕ))) (n : ℕ) : Type 0 where
+  pub few : length ts ≤ 5
+  pub most : n ≤ longest
+  pub rows : (k : ℕ) (t : Bor (List ℕ)) → k < length ts → n ≤ length (slice_index_or ts k t).now

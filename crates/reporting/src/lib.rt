@@ -1,53 +1,79 @@
-// Floor 4: the bodies of the programs `report` and `rows`. A file's way: bytes, number, symbols, answers, text; the text is written once.
+// Floor 4: the bodies of the programs `report` and `rows`. A file's way: bytes, symbols or refusal, answers, text; the text is written once.
 #![tactic(auto)]
 
 pub mod table;
 
-ghost use Rattle.std.specs.Prelude.{◌≤◌, length};
-ghost use Rattle.lines.specs.Text.{Says};
-ghost use Rattle.facts.specs.Report.{report_room, report_text};
+ghost use Rattle.std.specs.Prelude.{◌≡◌, ◌++◌, ℕ, List, length, IfNone, IfSome};
+ghost use Rattle.words.proofs.Refusals.{Judged};
+ghost use Rattle.lines.specs.Text.{Fits};
+ghost use Rattle.facts.specs.Report.{line_room, report_room, report_text};
 ghost use Rattle.reporting.specs.Texts.{file_text, rows_room, rows_text};
 
+use lines::Text;
 use std::io::Read;
 
-// The text of the report on a file.
-pub fn report_text(f: &[u8], text: &mut [u8]) -> usize
-    requires { report_room ≤ length text.old }
-    ensures { Says text.new result (file_text report_text f.now) }
+// The symbols of a file. A refused one has none: its text is put.
+pub fn accepted<'f>(f: &'f [u8], text: &mut Text) -> Option<&'f [u8]>
+    requires { Fits text.old (line_room 1) }
+    ensures refused { IfNone result ((said : List ℕ → List ℕ) → text.new.said ≡ text.old.said ++ file_text said f.now) }
+    ensures room { text.new.room ≡ text.old.room }
+    ensures judged { IfSome result (λ x. Judged (length x.now)) }
+    ensures accepted { IfSome result (λ x. (said : List ℕ → List ℕ) → file_text said f.now ≡ said x.now) }
+    ensures same { IfSome result (λ _. text.new ≡ text.old) }
 {
-    let no = logfile::number(f);
-    if no != 0 {
-        return facts::refused(no, text);
+    match logfile::read(f) {
+        Ok(x) => Some(x),
+        Err(no) => {
+            facts::refused(no, text);
+            None
+        }
     }
-    facts::report(logfile::symbols(f), text)
+}
+
+// The text of the report on a file.
+pub fn report_text(f: &[u8], text: &mut Text)
+    requires { Fits text.old report_room }
+    ensures said { text.new.said ≡ text.old.said ++ file_text report_text f.now }
+    ensures room { text.new.room ≡ text.old.room }
+{
+    if let Some(x) = accepted(f, text) {
+        facts::report(x, text);
+    }
 }
 
 // The text of the rows of a file.
-pub fn rows_text(f: &[u8], text: &mut [u8]) -> usize
-    requires { rows_room ≤ length text.old }
-    ensures { Says text.new result (file_text rows_text f.now) }
+pub fn rows_text(f: &[u8], text: &mut Text)
+    requires { Fits text.old rows_room }
+    ensures said { text.new.said ≡ text.old.said ++ file_text rows_text f.now }
+    ensures room { text.new.room ≡ text.old.room }
 {
-    let no = logfile::number(f);
-    if no != 0 {
-        return facts::refused(no, text);
+    if let Some(x) = accepted(f, text) {
+        table::put(x, text);
     }
-    table::put(logfile::symbols(f), text)
+}
+
+// Reads a file, and writes what `say` puts of it into the lent room. Whether that was written whole.
+pub fn run<F: FnOnce(&[u8], &mut Text)>(
+    rt: &(impl Print + Eprint),
+    from: &mut impl Read,
+    room: &mut [u8],
+    say: F,
+) -> bool
+    requires { (f : _) (t : _) → Fits t.now (length room.old) → F.pre say f t }
+{
+    let mut file = [0u8; logfile::FILE_ROOM];
+    let n = input::read_full(from, &mut file);
+    let mut text = Text::new(room);
+    say(&file[..n], &mut text);
+    output::write(rt, text.as_slice())
 }
 
 // Reads a file and writes the report on it. Whether it was written whole.
 pub fn report(rt: &(impl Print + Eprint), from: &mut impl Read) -> bool {
-    let mut file = [0u8; logfile::FILE_ROOM];
-    let mut text = [0u8; facts::TEXT];
-    let n = input::read_full(from, &mut file);
-    let end = report_text(&file[..n], &mut text);
-    output::write(rt, &text[0..end])
+    run(rt, from, &mut [0u8; facts::TEXT], report_text)
 }
 
 // Reads a file and writes every row of its tables. Whether they were written whole.
 pub fn rows(rt: &(impl Print + Eprint), from: &mut impl Read) -> bool {
-    let mut file = [0u8; logfile::FILE_ROOM];
-    let mut text = [0u8; table::TEXT];
-    let n = input::read_full(from, &mut file);
-    let end = rows_text(&file[..n], &mut text);
-    output::write(rt, &text[0..end])
+    run(rt, from, &mut [0u8; table::TEXT], rows_text)
 }

@@ -1,63 +1,46 @@
-// The text of the rows, line behind line in a lent buffer.
-ghost use Rattle.std.specs.Prelude.{◌≡◌, [], ◌∷◌, ◌+◌, ◌≤◌, eqb, length, get_or};
-ghost use Rattle.words.specs.Words as Words;
+// The text of a log's tables, a line for each row.
+ghost use Rattle.std.specs.Prelude.{◌≡◌, ◌++◌, ◌+◌, ◌*◌, ◌≤◌, ◌<◌, length};
 ghost use Rattle.words.proofs.Refusals.{Judged};
-ghost use Rattle.lines.specs.Text.{decimal, line, Put, Says};
+ghost use Rattle.lines.specs.Text.{decimal, line, Fits};
 ghost use Rattle.reporting.specs.Texts as Texts;
+
+use lines::Text;
 
 // The room of the whole text, one line a reading and one for the total (`rows_room` of specs/).
 pub const TEXT: usize = (lines::DECIMAL + lines::FIELD * 5 + 1) * (words::LONGEST + 1);
 
-// Puts the row r, from 0.
-fn row(
-    r: usize,
-    border: &[u16],
-    prefix: &[u16],
-    cover: &[u16],
-    best: &[u16],
-    count: &[u16],
-    text: &mut [u8],
-    at: usize,
-) -> usize
-    requires { Texts.Row r border.now prefix.now cover.now best.now count.now text.old at }
-    ensures put { Put text.old at (line (decimal (r + 1)) (get_or border.now r 0 ∷ get_or prefix.now r 0 ∷ get_or cover.now r 0 ∷ get_or best.now r 0 ∷ get_or count.now r 0 ∷ [])) text.new result }
-    ensures short { result ≤ at + Texts.row_room }
+// Puts row r, from 0: its number, and what each column has there.
+fn row(r: usize, columns: &[&[u16]], text: &mut Text)
+    requires { Texts.Tables columns.now (r + 1) × Fits text.old Texts.row_room }
+    ensures said { text.new.said ≡ text.old.said ++ line (decimal (r + 1)) (Texts.entries columns.now r) }
+    ensures room { text.new.room ≡ text.old.room }
+    ensures short { length text.new.said ≤ length text.old.said + Texts.row_room }
 {
-    lines::numbered(
-        text,
-        at,
-        r + 1,
-        &[border[r], prefix[r], cover[r], best[r], count[r]],
-    )
-}
-
-// Puts every row, and behind them the weighed total.
-fn rows(
-    x: &[u8],
-    border: &[u16],
-    prefix: &[u16],
-    cover: &[u16],
-    best: &[u16],
-    count: &[u16],
-    total: u32,
-    text: &mut [u8],
-) -> usize
-    requires { Texts.Columns x.now border.now prefix.now cover.now best.now count.now text.old × (total ≡ Words.total eqb x.now) }
-    ensures { Says text.new result (Texts.rows_text x.now) }
-{
-    let mut end = 0;
-    let mut r = 0;
-    while r < x.len() {
-        end = row(r, border, prefix, cover, best, count, text, end);
-        r += 1;
+    text.number(r + 1);
+    for column in columns {
+        let n = column[r];
+        text.field(usize::from(n));
     }
-    lines::counted(text, end, b"total", total as usize)
+    text.end();
 }
 
-// Puts the whole text of an accepted log.
-pub fn put(x: &[u8], text: &mut [u8]) -> usize
-    requires { Judged (length x.now) × (Texts.rows_room ≤ length text.old) }
-    ensures { Says text.new result (Texts.rows_text x.now) }
+// Puts the first n rows of no more than five columns.
+pub fn rows(n: usize, columns: &[&[u16]], text: &mut Text)
+    requires { Texts.Tables columns.now n × Fits text.old (Texts.row_room * n) }
+    ensures said { text.new.said ≡ text.old.said ++ Texts.table_lines columns.now n }
+    ensures room { text.new.room ≡ text.old.room }
+    ensures short { length text.new.said ≤ length text.old.said + Texts.row_room * n }
+{
+    for r in 0..n {
+        row(r, columns, text);
+    }
+}
+
+// Puts the whole text of an accepted log: every row of its tables, and the weighed total.
+pub fn put(x: &[u8], text: &mut Text)
+    requires { Judged (length x.now) × Fits text.old Texts.rows_room }
+    ensures said { text.new.said ≡ text.old.said ++ Texts.rows_text x.now }
+    ensures room { text.new.room ≡ text.old.room }
 {
     let mut border = [0u16; words::LONGEST];
     let mut prefix = [0u16; words::LONGEST];
@@ -72,5 +55,6 @@ pub fn put(x: &[u8], text: &mut [u8]) -> usize
         &mut best,
         &mut count,
     );
-    rows(x, &border, &prefix, &cover, &best, &count, total, text)
+    rows(x.len(), &[&border, &prefix, &cover, &best, &count], text);
+    text.counted(b"total", total as usize);
 }
