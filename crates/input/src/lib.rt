@@ -30,13 +30,13 @@ pub fn open<R: Files>(rt: &R, path: &[u8]) -> Option<R::File> {
     File::open(rt, name).ok()
 }
 
-// Argument k, put at the buffer's start: how many bytes it has, 0 where it does not fit; nothing where there is no such argument.
-pub fn argument(rt: &impl Env, k: usize, buffer: &mut [u8]) -> Option<usize>
-    ensures { IfSome result (λ n. n ≤ length buffer.new) }
+// Argument k, put into the buffer: no bytes where it does not fit; nothing where there is no such argument.
+pub fn argument<'a>(rt: &impl Env, k: usize, buffer: &'a mut [u8]) -> Option<&'a [u8]>
+    ensures { IfSome result (λ s. length s.now ≤ length buffer.old) }
 {
     match rt.arg(k, buffer) {
-        Ok(n) => Some(n),
-        Err(FillError::TooLong) => Some(0),
+        Ok(n) => Some(&buffer[..n]),
+        Err(FillError::TooLong) => Some(b""),
         Err(FillError::NotPresent) => None,
     }
 }
@@ -52,10 +52,9 @@ pub fn each_file<R: Env + Files + Print + Eprint, F: FnMut(&mut R::File) -> bool
 {
     let mut path = [0u8; ARGUMENT];
     for k in 1..usize::MAX {
-        let Some(n) = argument(rt, k, &mut path) else {
+        let Some(name) = argument(rt, k, &mut path) else {
             return;
         };
-        let name = &path[..n];
         let said = output::write(rt, name)
             && output::write(rt, behind)
             && match open(rt, name) {

@@ -20,9 +20,9 @@ fn print_file(rt: &HostRuntime, file: &[u8]) -> bool {
 }
 
 fn make(rt: &HostRuntime, from: &mut impl Read) -> bool {
-    let mut file = [0u8; logfile::LONGEST_FILE];
-    match ppm_lines::make_file(from, &mut file) {
-        Ok(n) => print_file(rt, &file[..n]),
+    let mut room = [0u8; logfile::LONGEST_FILE];
+    match ppm_lines::make_file(from, &mut room) {
+        Ok(file) => print_file(rt, file),
         Err(wrong) => rt.println(wrong).is_ok() || output::fail(rt),
     }
 }

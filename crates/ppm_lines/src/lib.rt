@@ -1,9 +1,9 @@
 // Floor 4: from a text of readings in whole ppm, one a line, to the plant's file.
 #![tactic(auto)]
 
-ghost use Rattle.std.specs.Prelude.{◌<◌, IfOk};
+ghost use Rattle.std.specs.Prelude.{IfOk};
 ghost use Rattle.ppm_text.specs.Texts.{Made};
-ghost use Rattle.ppm_text.specs.States.{Room, After, Holds};
+ghost use Rattle.ppm_text.specs.States.{Room, After};
 
 use ppm_text::{Fault, State};
 use std::error::Error;
@@ -57,17 +57,16 @@ fn read_text(from: &mut impl Read, file: &mut [u8]) -> Result<State, Wrong>
     Err(Wrong::Input)
 }
 
-// Reads a text to its end and makes its file: of how many bytes, or what is wrong.
-pub fn make_file(
+// Reads a text to its end and makes its file, at the front of the room that is lent.
+pub fn make_file<'a>(
     from: &mut impl Read,
-    file: &mut [u8; logfile::LONGEST_FILE],
-) -> Result<usize, Wrong>
-    ensures some { IfOk result (λ n. 0 < n) }
-    ensures held { IfOk result (λ n. Holds n file.new) }
+    room: &'a mut [u8; logfile::LONGEST_FILE],
+) -> Result<&'a [u8], Wrong>
+    ensures { IfOk result (λ file. Made file.now) }
 {
-    let s = read_text(from, file)?.end_text(file);
+    let s = read_text(from, room)?.end_text(room);
     match s.fault {
-        None => Ok(3 + s.readings),
+        None => Ok(&room[..3 + s.readings]),
         Some(fault) => Err(Wrong::Text {
             fault,
             line: s.number,
@@ -84,9 +83,9 @@ fn put(rt: &(impl Print + Eprint), file: &[u8])
 
 // From a text of readings to the plant's file. What is wrong is said on standard error.
 pub fn run(rt: &HostRuntime, from: &mut impl Read) {
-    let mut file = [0u8; logfile::LONGEST_FILE];
-    match make_file(from, &mut file) {
-        Ok(n) => put(rt, &file[..n]),
+    let mut room = [0u8; logfile::LONGEST_FILE];
+    match make_file(from, &mut room) {
+        Ok(file) => put(rt, file),
         Err(wrong) => {
             let _ = rt.eprintln(wrong);
         }

@@ -7,8 +7,8 @@ use Prim.Native.Nat.{ℕ, suc, ◌+◌, ◌≤◌, ◌<◌}
 use native.Mathlib.Omega.{arith}
 use native.Mathlib.Nat.{div-add-mod'}
 use lib.Dec.{eqb, ltb}
-use lib.ListN.{length, get_or, length-append, get_or-append}
-use lib.Seq.{get_or-append_seam, length-take-le}
+use lib.ListN.{length, get_or, take, length-append, get_or-append}
+use lib.Seq.{get_or-append_seam}
 use borrow.Author.Tests.{ltb-true, ltb-false, eqb-false, eq-eqb, ne_eqb, le-ltb}
 use Rattle.words.specs.Search.{any}
 use Rattle.words.specs.Refusals.{longest, first_no}
@@ -17,8 +17,8 @@ use Rattle.words.proofs.Tests.{by_test}
 use Rattle.words.proofs.Search.{any_none}
 use Rattle.ppm_text.specs.declared.State.{State}
 use Rattle.ppm_line.specs.Lines.{Said, symbol_of, says, says_after}
-use Rattle.ppm_text.specs.Texts.{Outcome, symbols, no_reading, lines, next_number, whole, given, from, outcome, file_of}
-use Rattle.ppm_text.specs.States.{heard, Room, line_gives, ahead, stopped, gives, ended, start_state, Takes, EndsText, After, Holds}
+use Rattle.ppm_text.specs.Texts.{Outcome, symbols, no_reading, lines, next_number, whole, given, from, outcome, file_of, Made}
+use Rattle.ppm_text.specs.States.{heard, Room, line_gives, ahead, stopped, gives, ended, start_state, Takes, EndsText, After}
 
 -- Pieces
 
@@ -123,23 +123,17 @@ accepts ss w =
       known_symbols ss w.known,
     )
 
--- What the code holds at the end
-pub nothing_held : (file : List ℕ) → Holds 0 file
-nothing_held file = record { within = (omega arith, refl); made = λ z. absurd (z refl) }
-
+-- What the code has made at the end
 module _ (s : State) (file : List ℕ) (d : After s file) (r : State) (file' : List ℕ) (e : EndsText s file r file') (p : r.fault ≡ None) where
   text_gives : outcome d.text ≡ symbols (heard r.readings file')
   unfolding lines ended stopped
   text_gives = rw append-nil at (sym (d.meaning []) ∙ sym e.meaning) ∙ rw p
 
-  pub file_held : Holds (3 + r.readings) file'
-  file_held = record {
-    within = (omega arith, sym (length-take-le (3 + r.readings) file' (omega arith)));
-    made = λ z. record {
-      text = d.text;
-      readings = heard r.readings file';
-      meaning = text_gives;
-      is = e.made p;
-      accepted = rw (e.made p) (accepts (heard r.readings file') (outcome_known d.text (heard r.readings file') text_gives));
-    };
+  pub file_made : Made (take (3 + r.readings) file')
+  file_made = record {
+    text = d.text;
+    readings = heard r.readings file';
+    meaning = text_gives;
+    is = e.made p;
+    accepted = rw (e.made p) (accepts (heard r.readings file') (outcome_known d.text (heard r.readings file') text_gives));
   }

@@ -1,13 +1,12 @@
 -- What the contracts say of a text that is being read: its state, and the file that takes its symbols. Assumes nothing.
 use Rattle.std.specs.Prelude.{◌≡◌, List, [], ◌∷◌, ◌++◌, ℕ, ◌+◌, ◌/◌, ◌%◌, ◌≤◌, length, take, drop, set, Option, Some, None}
 use Rattle.words.specs.Refusals.{longest}
-use Rattle.io.specs.Counts.{IsPrefixLen}
 use Rattle.ppm_line.specs.declared.Line.TheVariants.{Blank}
 use Rattle.ppm_line.specs.Lines.{Said, says_after}
 use Rattle.ppm_text.specs.declared.Fault.{Fault}
 use Rattle.ppm_text.specs.declared.Fault.TheVariants as fault
 use Rattle.ppm_text.specs.declared.State.{State}
-use Rattle.ppm_text.specs.Texts.{Outcome, symbols, wrong, no_reading, lines, next_number, given, from, outcome, file_of, Made}
+use Rattle.ppm_text.specs.Texts.{Outcome, symbols, wrong, no_reading, lines, next_number, given, from, outcome, file_of}
 
 -- What a state of the reading gives with the lines xs to come. Its own line goes on with the first of them
 
@@ -88,8 +87,3 @@ pub record After (s : State) (file : List ℕ) : Type 0 where
   pub text : List ℕ
   pub room : Room s.readings file
   pub meaning : (t : List ℕ) → gives s file (lines t) ≡ outcome (text ++ t)
-
--- The first n bytes are the file of some text; no byte is where n is 0
-pub record Holds (n : ℕ) (file : List ℕ) : Type 0 where
-  pub within : IsPrefixLen n file
-  pub made : (n ≡ 0 → ⊥) → Made (take n file)
