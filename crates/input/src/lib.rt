@@ -1,4 +1,4 @@
-// Floor 4: what a program is given: bytes to read, and arguments that name files.
+// Floor 4: what a program is given: bytes to read, and arguments that name files to say something of.
 #![tactic(auto)]
 
 ghost use Rattle.std.specs.Prelude.{◌≤◌, length, IfSome};
@@ -30,13 +30,39 @@ pub fn open<R: Files>(rt: &R, path: &[u8]) -> Option<R::File> {
     File::open(rt, name).ok()
 }
 
-// Argument k, put at the buffer's start: how many bytes it has, 0 where it does not fit; nothing where there is no such argument.
-pub fn argument(rt: &impl Env, k: usize, buffer: &mut [u8]) -> Option<usize>
-    ensures { IfSome result (λ n. n ≤ length buffer.new) }
+// Argument k, put into the buffer: no bytes where it does not fit; nothing where there is no such argument.
+pub fn argument<'a>(rt: &impl Env, k: usize, buffer: &'a mut [u8]) -> Option<&'a [u8]>
+    ensures { IfSome result (λ s. length s.now ≤ length buffer.old) }
 {
     match rt.arg(k, buffer) {
-        Ok(n) => Some(n),
-        Err(FillError::TooLong) => Some(0),
+        Ok(n) => Some(&buffer[..n]),
+        Err(FillError::TooLong) => Some(b""),
         Err(FillError::NotPresent) => None,
+    }
+}
+
+// Goes over the files that the arguments name, in their order: writes each name and what stands behind it, and then `say` is to write of the file. One
+// that cannot be opened is called missing. Ends with the arguments, or where a piece cannot be written, which `say` tells by answering no.
+pub fn each_file<R: Env + Files + Print + Eprint, F: FnMut(&mut R::File) -> bool>(
+    rt: &R,
+    behind: &[u8],
+    mut say: F,
+)
+    requires { F.IsAlwaysCallable say }
+{
+    let mut path = [0u8; ARGUMENT];
+    for k in 1..usize::MAX {
+        let Some(name) = argument(rt, k, &mut path) else {
+            return;
+        };
+        let said = output::write(rt, name)
+            && output::write(rt, behind)
+            && match open(rt, name) {
+                Some(mut file) => say(&mut file),
+                None => output::write(rt, b"missing\n"),
+            };
+        if !said {
+            return;
+        }
     }
 }

@@ -1,4 +1,5 @@
 // Floor 4: standard output. What a program has made is written whole, or a line on standard error says that it was not; then the program is to stop.
+// Each answers yes or no: `a && b` of its callers would be no plainer as `a?; b?; Ok(())`, and `fail` promises that it answers no.
 #![tactic(auto)]
 
 ghost use Rattle.std.specs.Prelude.{◌≡◌, false};

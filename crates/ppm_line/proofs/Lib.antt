@@ -1,3 +1,2 @@
--- The laws: the code's, and what they say in plain words.
-pub mod Steps
+-- What the definitions say in plain words.
 pub mod Numbers

@@ -10,7 +10,8 @@ use lib.ListN.{length}
 use borrow.Author.Tests.{leb-true, leb-false, le-leb, lt-leb, ne_eqb}
 use Rattle.words.proofs.Tests.{by_test, not_passed, and_left, and_right}
 use Rattle.ppm_line.specs.declared.Number.{Number}
-use Rattle.ppm_line.specs.declared.Said.TheVariants.{Nothing, Reading, LongNumber}
+use Rattle.std.specs.Prelude.{Some, None, Ok, Err}
+use Rattle.ppm_line.specs.declared.LineFault.TheVariants.{LongNumber}
 use Rattle.ppm_line.specs.Lines.{blank, digit, mark, blanks, no_digits, longer, of_number, after_number, after_digits, says, digits, spelt}
 
 -- the digits as the code keeps them
@@ -104,7 +105,7 @@ first_digit_said : (b : ℕ) (t : List ℕ) → digit b ≡ true → says (b ∷
 unfolding says after_digits
 first_digit_said b t d = rw (not_blank b d, not_mark b d, d)
 
-number_kept : (ds : List ℕ) → digits ds ≡ true → of_number (kept no_digits ds) ≡ cond (leb (length ds) 6) (Reading (spelt 0 ds)) LongNumber
+number_kept : (ds : List ℕ) → digits ds ≡ true → of_number (kept no_digits ds) ≡ cond (leb (length ds) 6) (Ok (Some (spelt 0 ds))) (Err LongNumber)
 unfolding of_number no_digits
 number_kept ds h =
     let c : (kept no_digits ds).digits ≡ min (0 + length ds) 7 = kept_count no_digits ds (omega arith) in
@@ -115,7 +116,7 @@ number_kept ds h =
     rw (t, lt-leb (kept no_digits ds).digits 6 (omega arith)))
 
 pub number_said : (before : List ℕ) (b : ℕ) (ds after : List ℕ) → blanks before ≡ true → digits (b ∷ ds) ≡ true → blanks after ≡ true
-    → says (before ++ ((b ∷ ds) ++ after)) ≡ cond (leb (length (b ∷ ds)) 6) (Reading (spelt 0 (b ∷ ds))) LongNumber
+    → says (before ++ ((b ∷ ds) ++ after)) ≡ cond (leb (length (b ∷ ds)) 6) (Ok (Some (spelt 0 (b ∷ ds)))) (Err LongNumber)
 number_said before b ds after p d q =
     says_blanks before ((b ∷ ds) ++ after) p
     ∙ first_digit_said b (ds ++ after) (first_of b ds d)
@@ -124,14 +125,14 @@ number_said before b ds after p d q =
     ∙ number_kept (b ∷ ds) d
 
 -- Blanks alone say nothing, and so does a remark
-pub blank_said : (t : List ℕ) → blanks t ≡ true → says t ≡ Nothing
+pub blank_said : (t : List ℕ) → blanks t ≡ true → says t ≡ Ok None
 unfolding says blanks
 blank_said [] h = refl
 blank_said (b ∷ t) h = rw (and_left (blank b) _ h) (blank_said t (and_right (blank b) _ h))
 
-mark_said : (t : List ℕ) → says (mark ∷ t) ≡ Nothing
+mark_said : (t : List ℕ) → says (mark ∷ t) ≡ Ok None
 unfolding says blank
 mark_said t = refl
 
-pub remark_said : (before t : List ℕ) → blanks before ≡ true → says (before ++ (mark ∷ t)) ≡ Nothing
+pub remark_said : (before t : List ℕ) → blanks before ≡ true → says (before ++ (mark ∷ t)) ≡ Ok None
 remark_said before t h = says_blanks before (mark ∷ t) h ∙ mark_said t

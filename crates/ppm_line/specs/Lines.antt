@@ -1,11 +1,15 @@
 -- What a line says. A line is the list of its bytes without its line end. Assumes nothing.
-use Rattle.std.specs.Prelude.{Bool, true, cond, ◌&&◌, ◌||◌, List, [], ◌∷◌, ℕ, ◌+◌, ◌-◌, ◌*◌, ◌/◌, ◌%◌, min, eqb, leb}
+use Rattle.std.specs.Prelude.{Bool, true, cond, ◌&&◌, ◌||◌, List, [], ◌∷◌, ℕ, ◌+◌, ◌-◌, ◌*◌, ◌/◌, ◌%◌, min, eqb, leb, Option, Some, None, Result, Ok, Err}
 use Rattle.words.specs.PlantFile.{ceiling_symbol}
 use Rattle.ppm_line.specs.declared.Number.{Number}
 use Rattle.ppm_line.specs.declared.Line.{Line}
 use Rattle.ppm_line.specs.declared.Line.TheVariants.{Blank, Remark, Digits, Spaced, Other}
-use Rattle.ppm_line.specs.declared.Said.{Said}
-use Rattle.ppm_line.specs.declared.Said.TheVariants.{Nothing, Reading, NoNumber, LongNumber}
+use Rattle.ppm_line.specs.declared.LineFault.{LineFault}
+use Rattle.ppm_line.specs.declared.LineFault.TheVariants.{NoNumber, LongNumber}
+
+-- What a whole line says: a reading, nothing, or what is wrong with it
+abbrev pub Said : Type 0
+Said = Result (Option ℕ) LineFault
 
 -- the symbol of a reading: whole hundreds of ppm, and the ceiling's from 2000 ppm on
 abbrev pub symbol_of : ℕ → ℕ
@@ -36,11 +40,11 @@ longer n b = record { digits = min (n.digits + 1) 7; ppm = n.ppm % 100000 * 10 +
 
 -- what a whole number says
 unfoldable pub of_number : Number → Said
-of_number n = cond (leb n.digits 6) (Reading n.ppm) LongNumber
+of_number n = cond (leb n.digits 6) (Ok (Some n.ppm)) (Err LongNumber)
 
 -- what a line says after the digits n: more digits, and then nothing but blanks
 unfoldable pub after_number : Number → List ℕ → Said
-after_number n t = cond (blanks t) (of_number n) NoNumber
+after_number n t = cond (blanks t) (of_number n) (Err NoNumber)
 
 unfoldable pub after_digits : Number → List ℕ → Said
 after_digits n [] = of_number n
@@ -48,16 +52,16 @@ after_digits n (b ∷ t) = cond (digit b) (after_digits (longer n b) t) (after_n
 
 -- what a line says: after blanks nothing, a remark or a number
 unfoldable pub says : List ℕ → Said
-says [] = Nothing
-says (b ∷ t) = cond (blank b) (says t) (cond (eqb b mark) Nothing (cond (digit b) (after_digits (longer no_digits b) t) NoNumber))
+says [] = Ok None
+says (b ∷ t) = cond (blank b) (says t) (cond (eqb b mark) (Ok None) (cond (digit b) (after_digits (longer no_digits b) t) (Err NoNumber)))
 
 -- what a line says that begins with what amounts to l, where t is the rest of it
 unfoldable pub says_after : Line → List ℕ → Said
 says_after Blank t = says t
-says_after Remark t = Nothing
+says_after Remark t = Ok None
 says_after (Digits n) t = after_digits n t
 says_after (Spaced n) t = after_number n t
-says_after Other t = NoNumber
+says_after Other t = Err NoNumber
 
 -- For the laws that say in plain words what a line says: nothing but digits, and the number that they spell after v
 unfoldable pub digits : List ℕ → Bool

@@ -1,18 +1,18 @@
 // Floor 2: what one line of a text of readings says.
-#![tactic(auto)]
+#![tactic(auto, unfolding(crate::specs::Lines::blank, crate::specs::Lines::digit, crate::specs::Lines::blanks, crate::specs::Lines::no_digits, crate::specs::Lines::longer, crate::specs::Lines::of_number, crate::specs::Lines::after_number, crate::specs::Lines::after_digits, crate::specs::Lines::says, crate::specs::Lines::says_after))]
 
-ghost use Rattle.std.specs.Prelude.{true, ◌≡◌, List, [], ◌∷◌, ℕ, ◌+◌, min};
-ghost use Rattle.ppm_line.specs.Lines.{symbol_of, blank, digit, no_digits, longer, of_number, after_number, after_digits, says, says_after};
+ghost use Rattle.std.specs.Prelude.{true, ◌≡◌, List, [], ◌∷◌, ℕ};
+ghost use Rattle.ppm_line.specs.Lines.{symbol_of, blank, digit, longer, of_number, says, says_after};
 
 // The digits of a line's number: how many, counted to seven, and the value of the last six.
-#[derive(Clone, Copy)]
+#[derive(Clone, Copy, Debug, Default, PartialEq, Eq)]
 pub struct Number {
     pub digits: u8,
     pub ppm: u32,
 }
 
 // What the first bytes of a line amount to.
-#[derive(Clone, Copy)]
+#[derive(Clone, Copy, Debug, PartialEq, Eq)]
 pub enum Line {
     Blank,
     Remark,
@@ -21,19 +21,11 @@ pub enum Line {
     Other,
 }
 
-// What a whole line says.
-#[derive(Clone, Copy)]
-pub enum Said {
-    Nothing,
-    Reading(u32),
+// What is wrong with a line.
+#[derive(Clone, Copy, Debug, PartialEq, Eq)]
+pub enum LineFault {
     NoNumber,
     LongNumber,
-}
-
-fn wide(b: u8) -> u32
-    ensures { result ≡ b }
-{
-    b as u32
 }
 
 // The symbol of a reading: whole hundreds of ppm, rounded down, with 20 for 2000 and above.
@@ -47,112 +39,66 @@ pub fn symbol(ppm: u32) -> u8
 fn is_blank(b: u8) -> bool
     ensures { result ≡ blank b }
 {
-    if b == b' ' {
-        return true;
-    }
-    if b == b'\t' {
-        return true;
-    }
-    b == b'\r'
+    matches!(b, b' ' | b'\t' | b'\r')
 }
 
-fn is_digit(b: u8) -> bool
-    ensures { result ≡ digit b }
-{
-    if b < b'0' {
-        return false;
+impl Number {
+    fn with_digit(self, b: u8) -> Number
+        requires { digit b ≡ true }
+        ensures { result ≡ longer self b }
+    {
+        Number {
+            digits: self.digits.saturating_add(1).min(7),
+            ppm: self.ppm % 100000 * 10 + u32::from(b - b'0'),
+        }
     }
-    b <= b'9'
-}
 
-fn counted(digits: u8) -> u8
-    ensures { result ≡ min (digits + 1) 7 }
-{
-    if digits < 6 { digits + 1 } else { 7 }
-}
-
-// The number with one more digit.
-fn with_digit(n: Number, b: u8) -> Number
-    requires { digit b ≡ true }
-    ensures { result ≡ longer n b }
-{
-    Number {
-        digits: counted(n.digits),
-        ppm: n.ppm % 100000 * 10 + wide(b - 48),
+    // What a line says that holds the whole number.
+    fn says(self) -> Result<Option<u32>, LineFault>
+        ensures { result ≡ of_number self }
+    {
+        if self.digits <= 6 {
+            Ok(Some(self.ppm))
+        } else {
+            Err(LineFault::LongNumber)
+        }
     }
 }
 
-// What a line amounts to after its first byte.
-fn first(b: u8) -> Line
-    ensures { (t : List ℕ) → says_after result t ≡ says (b ∷ t) }
-{
-    if is_blank(b) {
-        return Line::Blank;
+impl Line {
+    // What a line amounts to after its first byte.
+    fn first(b: u8) -> Line
+        ensures { (t : List ℕ) → says_after result t ≡ says (b ∷ t) }
+    {
+        match b {
+            _ if is_blank(b) => Line::Blank,
+            b'#' => Line::Remark,
+            b'0'..=b'9' => Line::Digits(Number::default().with_digit(b)),
+            _ => Line::Other,
+        }
     }
-    if b == b'#' {
-        return Line::Remark;
-    }
-    if is_digit(b) {
-        return Line::Digits(with_digit(no_digits(), b));
-    }
-    Line::Other
-}
 
-fn no_digits() -> Number
-    ensures { result ≡ no_digits }
-{
-    Number { digits: 0, ppm: 0 }
-}
-
-fn after_digits(n: Number, b: u8) -> Line
-    ensures { (t : List ℕ) → says_after result t ≡ after_digits n (b ∷ t) }
-{
-    if is_digit(b) {
-        return Line::Digits(with_digit(n, b));
+    // What a line amounts to with one more byte.
+    pub fn next(self, b: u8) -> Line
+        ensures { (t : List ℕ) → says_after result t ≡ says_after self (b ∷ t) }
+    {
+        match self {
+            Line::Blank => Line::first(b),
+            Line::Remark => Line::Remark,
+            Line::Digits(n) if b.is_ascii_digit() => Line::Digits(n.with_digit(b)),
+            Line::Digits(n) | Line::Spaced(n) if is_blank(b) => Line::Spaced(n),
+            _ => Line::Other,
+        }
     }
-    after_number(n, b)
-}
 
-fn after_number(n: Number, b: u8) -> Line
-    ensures { (t : List ℕ) → says_after result t ≡ after_number n (b ∷ t) }
-{
-    if is_blank(b) {
-        return Line::Spaced(n);
-    }
-    Line::Other
-}
-
-// What a line amounts to with one more byte.
-pub fn next(l: Line, b: u8) -> Line
-    ensures { (t : List ℕ) → says_after result t ≡ says_after l (b ∷ t) }
-{
-    match l {
-        Line::Blank => first(b),
-        Line::Remark => Line::Remark,
-        Line::Digits(n) => after_digits(n, b),
-        Line::Spaced(n) => after_number(n, b),
-        Line::Other => Line::Other,
-    }
-}
-
-fn number_says(n: Number) -> Said
-    ensures { result ≡ of_number n }
-{
-    if n.digits <= 6 {
-        return Said::Reading(n.ppm);
-    }
-    Said::LongNumber
-}
-
-// What a line says that is at its end.
-pub fn line_says(l: Line) -> Said
-    ensures { result ≡ says_after l [] }
-{
-    match l {
-        Line::Blank => Said::Nothing,
-        Line::Remark => Said::Nothing,
-        Line::Digits(n) => number_says(n),
-        Line::Spaced(n) => number_says(n),
-        Line::Other => Said::NoNumber,
+    // What a line says that is at its end: a reading, nothing, or what is wrong with it.
+    pub fn says(self) -> Result<Option<u32>, LineFault>
+        ensures { result ≡ says_after self [] }
+    {
+        match self {
+            Line::Blank | Line::Remark => Ok(None),
+            Line::Digits(n) | Line::Spaced(n) => n.says(),
+            Line::Other => Err(LineFault::NoNumber),
+        }
     }
 }

@@ -1,5 +1,5 @@
 -- The end of a text and its file. Each premise stands as the code's tests give it. Assumes nothing.
-use mathlib.Core.Bool.{Bool, true, false}
+use Rattle.std.specs.Prelude.{Some, None}
 use mathlib.Core.Path.{◌≡◌, sym, ap, ◌∙◌}
 use mathlib.Core.List.{List, [], ◌∷◌}
 use Prim.Native.Nat.{ℕ, suc, ◌+◌, ◌/◌, ◌%◌, ◌≤◌}
@@ -8,12 +8,13 @@ use lib.ListN.{length, take, set, length-set}
 use lib.Seq.{drop-set-lt}
 use borrow.Author.Tests.{ne_eqb}
 use Rattle.ppm_line.specs.declared.Line.TheVariants.{Blank}
+use Rattle.ppm_text.specs.declared.Fault.{Fault}
 use Rattle.ppm_text.specs.declared.Fault.TheVariants as fault
 use Rattle.ppm_text.specs.declared.State.{State}
 use Rattle.ppm_line.specs.Lines.{says, says_after}
 use Rattle.ppm_text.specs.Texts.{symbols, no_reading, whole, given, from, file_of}
-use Rattle.ppm_text.specs.States.{heard, Room, line_gives, ahead, stopped, is_fault, gives, ended, stop_at, headed, AtFront, EndsLine, EndsText}
-use Rattle.ppm_text.proofs.Readings.{length_heard, fault_stays, no_fault, no_front}
+use Rattle.ppm_text.specs.States.{heard, Room, line_gives, ahead, stopped, gives, ended, stop_at, headed, AtFront, EndsLine, EndsText}
+use Rattle.ppm_text.proofs.Readings.{length_heard}
 
 -- the header
 pub heard_headed : (n m : ℕ) (file : List ℕ) → heard n (headed m file) ≡ heard n file
@@ -38,17 +39,17 @@ file_headed n file m =
     rw (heard_headed n n file, l) (front_headed n n file (omega arith))
 
 -- the end
-ended_gives : (s : State) (file : List ℕ) → is_fault s.fault ≡ true → ended s file ≡ gives s file []
-unfolding ended gives
-ended_gives s file e = fault_stays s.fault s.number _ _ e
+ended_gives : (s : State) (file : List ℕ) (f : Fault) → s.fault ≡ Some f → ended s file ≡ gives s file []
+unfolding ended gives stopped
+ended_gives s file f p = rw p
 
-front_gives : (s : State) (file : List ℕ) → is_fault s.fault ≡ false → s.line ≡ Blank → gives s file [] ≡ whole (heard s.readings file)
+front_gives : (s : State) (file : List ℕ) → s.fault ≡ None → s.line ≡ Blank → gives s file [] ≡ whole (heard s.readings file)
 unfolding gives stopped ahead line_gives says_after says given from
-front_gives s file e q = rw (no_fault s.fault e, q)
+front_gives s file p q = rw (p, q)
 
-ended_heard : (s : State) (file : List ℕ) → is_fault s.fault ≡ false → ended s file ≡ symbols (heard s.readings file)
+ended_heard : (s : State) (file : List ℕ) → s.fault ≡ None → ended s file ≡ symbols (heard s.readings file)
 unfolding ended stopped
-ended_heard s file e = rw (no_fault s.fault e)
+ended_heard s file p = rw p
 
 none_whole : (n : ℕ) (file : List ℕ) → n ≡ 0 → no_reading ≡ whole (heard n file)
 unfolding whole heard
@@ -60,26 +61,26 @@ some_whole n file m z =
     let l : length (heard n file) ≡ n = length_heard n file m.long ∙ omega arith in
     rw (l, ne_eqb n 0 z)
 
-pub wrong_before : (s : State) (file : List ℕ) (f : Bool) → Room s.readings file → f ≡ is_fault s.fault → f ≡ true → EndsText s file s file
-wrong_before s file f m p q = record { room = m; meaning = ended_gives s file (sym p ∙ q); made = λ h. no_front (sym q ∙ p ∙ h) }
+pub wrong_before : (s : State) (file : List ℕ) (f : Fault) → Room s.readings file → s.fault ≡ Some f → EndsText s file s file
+wrong_before s file f m p = record { room = m; meaning = ended_gives s file f p; made = λ h. cc }
 
-module _ (s : State) (file : List ℕ) (d : AtFront s file) (f : Bool) (p : f ≡ is_fault s.fault) (q : f ≡ false) where
+module _ (s : State) (file : List ℕ) (d : AtFront s file) (p : s.fault ≡ None) where
   all_heard : whole (heard s.readings file) ≡ gives s file []
-  all_heard = sym (front_gives s file (sym p ∙ q) (d.front (sym p ∙ q)))
+  all_heard = sym (front_gives s file p (d.front p))
 
   pub none_heard : (r : State) → s.readings ≡ 0 → r ≡ stop_at s fault.Empty → EndsText s file r file
   unfolding ended stopped
   none_heard r z e = record {
     room = rw e d.room;
     meaning = rw e (none_whole s.readings file z ∙ all_heard);
-    made = λ h. no_front (rw e at h);
+    made = λ h. cc;
   }
 
   header_put : (s.readings ≡ 0 → ⊥) → EndsText s file s (headed s.readings file)
   header_put z = record {
     room = record { few = d.room.few; long = simp length-set d.room.long };
     meaning =
-        ended_heard s (headed s.readings file) (sym p ∙ q)
+        ended_heard s (headed s.readings file) p
         ∙ ap symbols (heard_headed s.readings s.readings file)
         ∙ some_whole s.readings file d.room z
         ∙ all_heard;
@@ -90,10 +91,10 @@ module _ (s : State) (file : List ℕ) (d : AtFront s file) (f : Bool) (p : f �
   some_heard file' z e = rw e (header_put z)
 
 -- the last line ends, and then the text
-module _ (s : State) (file : List ℕ) (f : Bool) (p : f ≡ is_fault s.fault) (q : f ≡ false) (t : State) (file₁ : List ℕ) (d : EndsLine s file (says_after s.line []) t file₁) where
+module _ (s : State) (file : List ℕ) (p : s.fault ≡ None) (t : State) (file₁ : List ℕ) (d : EndsLine s file (says_after s.line []) t file₁) where
   last_line : gives t file₁ [] ≡ gives s file []
   unfolding gives stopped ahead
-  last_line = d.meaning [] ∙ rw (no_fault s.fault (sym p ∙ q))
+  last_line = d.meaning [] ∙ rw p
 
   pub then_ends : (r : State) (file₂ : List ℕ) → EndsText t file₁ r file₂ → EndsText s file r file₂
   then_ends r file₂ e = record { room = e.room; meaning = e.meaning ∙ last_line; made = e.made }

@@ -1,26 +1,24 @@
 -- A text that came in pieces, and the file that is made of it. Assumes nothing.
-use mathlib.Core.Bool.{Bool, false}
+use mathlib.Core.Bool.{false}
+use Rattle.std.specs.Prelude.{Some, None, Ok, Err}
 use mathlib.Core.Path.{◌≡◌, refl, sym, ◌∙◌}
 use mathlib.Core.List.{List, [], ◌∷◌, ◌++◌, append_assoc, append-nil}
 use Prim.Native.Nat.{ℕ, suc, ◌+◌, ◌≤◌, ◌<◌}
 use native.Mathlib.Omega.{arith}
 use native.Mathlib.Nat.{div-add-mod'}
 use lib.Dec.{eqb, ltb}
-use lib.ListN.{length, get_or, length-append, get_or-append}
-use lib.Seq.{get_or-append_seam, length-take-le}
+use lib.ListN.{length, get_or, take, length-append, get_or-append}
+use lib.Seq.{get_or-append_seam}
 use borrow.Author.Tests.{ltb-true, ltb-false, eqb-false, eq-eqb, ne_eqb, le-ltb}
 use Rattle.words.specs.Search.{any}
 use Rattle.words.specs.Refusals.{longest, first_no}
 use Rattle.words.specs.PlantFile.{ceiling_symbol, field_of, file_no}
 use Rattle.words.proofs.Tests.{by_test}
 use Rattle.words.proofs.Search.{any_none}
-use Rattle.ppm_line.specs.declared.Said.{Said}
-use Rattle.ppm_line.specs.declared.Said.TheVariants as said
 use Rattle.ppm_text.specs.declared.State.{State}
-use Rattle.ppm_line.specs.Lines.{symbol_of, says, says_after}
-use Rattle.ppm_text.specs.Texts.{Outcome, symbols, no_reading, lines, next_number, whole, given, from, outcome, file_of}
-use Rattle.ppm_text.specs.States.{heard, Room, line_gives, ahead, stopped, is_fault, gives, ended, start_state, Takes, EndsText, After, Holds}
-use Rattle.ppm_text.proofs.Readings.{no_fault}
+use Rattle.ppm_line.specs.Lines.{Said, symbol_of, says, says_after}
+use Rattle.ppm_text.specs.Texts.{Outcome, symbols, no_reading, lines, next_number, whole, given, from, outcome, file_of, Made}
+use Rattle.ppm_text.specs.States.{heard, Room, line_gives, ahead, stopped, gives, ended, start_state, Takes, EndsText, After}
 
 -- Pieces
 
@@ -75,13 +73,12 @@ whole_known ss rs m e =
 
 given_known : (w : Said) (k : ℕ) (ss rs : List ℕ) (go : List ℕ → Outcome) → ((q : List ℕ) → Known q → go q ≡ symbols rs → Whole rs) → Known ss → given w k ss go ≡ symbols rs → Whole rs
 unfolding given
-given_known said.Nothing k ss rs go f m e = f ss m e
-given_known (said.Reading ppm) k ss rs go f m e =
+given_known (Ok None) k ss rs go f m e = f ss m e
+given_known (Ok (Some ppm)) k ss rs go f m e =
     by_test (ltb (length ss) longest)
     (λ t. f (ss ++ (symbol_of ppm ∷ [])) (more_known ss ppm m (ltb-true (length ss) longest t)) (rw t at e))
     (λ t. absurd (let z = rw t at e in let y : ◌≡◌ {A = ℕ} 0 1 = cc in omega arith))
-given_known said.NoNumber k ss rs go f m e = absurd (let y : ◌≡◌ {A = ℕ} 0 1 = cc in omega arith)
-given_known said.LongNumber k ss rs go f m e = absurd (let y : ◌≡◌ {A = ℕ} 0 1 = cc in omega arith)
+given_known (Err _) k ss rs go f m e = absurd (let y : ◌≡◌ {A = ℕ} 0 1 = cc in omega arith)
 
 from_known : (xs : List (List ℕ)) (k : ℕ) (ss rs : List ℕ) → Known ss → from k ss xs ≡ symbols rs → Whole rs
 unfolding from
@@ -126,23 +123,17 @@ accepts ss w =
       known_symbols ss w.known,
     )
 
--- What the code holds at the end
-pub nothing_held : (file : List ℕ) → Holds 0 file
-nothing_held file = record { within = (omega arith, refl); made = λ z. absurd (z refl) }
-
-module _ (s : State) (file : List ℕ) (d : After s file) (r : State) (file' : List ℕ) (e : EndsText s file r file') (f : Bool) (p : f ≡ is_fault r.fault) (q : f ≡ false) where
+-- What the code has made at the end
+module _ (s : State) (file : List ℕ) (d : After s file) (r : State) (file' : List ℕ) (e : EndsText s file r file') (p : r.fault ≡ None) where
   text_gives : outcome d.text ≡ symbols (heard r.readings file')
   unfolding lines ended stopped
-  text_gives = rw append-nil at (sym (d.meaning []) ∙ sym e.meaning) ∙ rw (no_fault r.fault (sym p ∙ q))
+  text_gives = rw append-nil at (sym (d.meaning []) ∙ sym e.meaning) ∙ rw p
 
-  pub file_held : Holds (3 + r.readings) file'
-  file_held = record {
-    within = (omega arith, sym (length-take-le (3 + r.readings) file' (omega arith)));
-    made = λ z. record {
-      text = d.text;
-      readings = heard r.readings file';
-      meaning = text_gives;
-      is = e.made (sym p ∙ q);
-      accepted = rw (e.made (sym p ∙ q)) (accepts (heard r.readings file') (outcome_known d.text (heard r.readings file') text_gives));
-    };
+  pub file_made : Made (take (3 + r.readings) file')
+  file_made = record {
+    text = d.text;
+    readings = heard r.readings file';
+    meaning = text_gives;
+    is = e.made p;
+    accepted = rw (e.made p) (accepts (heard r.readings file') (outcome_known d.text (heard r.readings file') text_gives));
   }

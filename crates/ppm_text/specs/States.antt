@@ -1,14 +1,12 @@
 -- What the contracts say of a text that is being read: its state, and the file that takes its symbols. Assumes nothing.
-use Rattle.std.specs.Prelude.{Bool, true, false, ◌≡◌, List, [], ◌∷◌, ◌++◌, ℕ, ◌+◌, ◌/◌, ◌%◌, ◌≤◌, length, take, drop, set}
+use Rattle.std.specs.Prelude.{◌≡◌, List, [], ◌∷◌, ◌++◌, ℕ, ◌+◌, ◌/◌, ◌%◌, ◌≤◌, length, take, drop, set, Option, Some, None}
 use Rattle.words.specs.Refusals.{longest}
-use Rattle.io.specs.Counts.{IsPrefixLen}
 use Rattle.ppm_line.specs.declared.Line.TheVariants.{Blank}
-use Rattle.ppm_line.specs.declared.Said.{Said}
-use Rattle.ppm_line.specs.Lines.{says_after}
+use Rattle.ppm_line.specs.Lines.{Said, says_after}
 use Rattle.ppm_text.specs.declared.Fault.{Fault}
 use Rattle.ppm_text.specs.declared.Fault.TheVariants as fault
 use Rattle.ppm_text.specs.declared.State.{State}
-use Rattle.ppm_text.specs.Texts.{Outcome, symbols, wrong, no_reading, lines, next_number, given, from, outcome, file_of, Made}
+use Rattle.ppm_text.specs.Texts.{Outcome, symbols, wrong, no_reading, lines, next_number, given, from, outcome, file_of}
 
 -- What a state of the reading gives with the lines xs to come. Its own line goes on with the first of them
 
@@ -29,20 +27,17 @@ unfoldable pub ahead : State → List ℕ → List (List ℕ) → Outcome
 ahead s file [] = line_gives s file (says_after s.line []) []
 ahead s file (x ∷ xs) = line_gives s file (says_after s.line x) xs
 
--- a fault with the number of its line; o where there is none
-unfoldable pub stopped : Fault → ℕ → Outcome → Outcome
-stopped fault.Nothing k o = o
-stopped fault.NoNumber k o = wrong fault.NoNumber k
-stopped fault.LongNumber k o = wrong fault.LongNumber k
-stopped fault.Many k o = wrong fault.Many k
-stopped fault.Empty k o = no_reading
+-- a fault, with the number of its line where it has one
+abbrev pub fault_at : Fault → ℕ → Outcome
+fault_at fault.NoNumber k = wrong fault.NoNumber k
+fault_at fault.LongNumber k = wrong fault.LongNumber k
+fault_at fault.Many k = wrong fault.Many k
+fault_at fault.Empty k = no_reading
 
-abbrev pub is_fault : Fault → Bool
-is_fault fault.Nothing = false
-is_fault fault.NoNumber = true
-is_fault fault.LongNumber = true
-is_fault fault.Many = true
-is_fault fault.Empty = true
+-- o where there is no fault
+unfoldable pub stopped : Option Fault → ℕ → Outcome → Outcome
+stopped None k o = o
+stopped (Some f) k o = fault_at f k
 
 unfoldable pub gives : State → List ℕ → List (List ℕ) → Outcome
 gives s file xs = stopped s.fault s.number (ahead s file xs)
@@ -53,13 +48,13 @@ ended s file = stopped s.fault s.number (symbols (heard s.readings file))
 
 -- The states and the file that the code makes
 abbrev pub start_state : State
-start_state = record { line = Blank; number = 1; readings = 0; fault = fault.Nothing }
+start_state = record { line = Blank; number = 1; readings = 0; fault = None }
 
 abbrev pub stop_at : State → Fault → State
-stop_at s f = record { line = s.line; number = s.number; readings = s.readings; fault = f }
+stop_at s f = record { line = s.line; number = s.number; readings = s.readings; fault = Some f }
 
 abbrev pub line_after : State → ℕ → State
-line_after s n = record { line = Blank; number = next_number s.number; readings = n; fault = fault.Nothing }
+line_after s n = record { line = Blank; number = next_number s.number; readings = n; fault = None }
 
 abbrev pub headed : ℕ → List ℕ → List ℕ
 headed n file = set (set (set file 0 1) 1 (n / 256)) 2 (n % 256)
@@ -67,7 +62,7 @@ headed n file = set (set (set file 0 1) 1 (n / 256)) 2 (n % 256)
 -- where nothing is wrong, the state is at the front of a line
 pub record AtFront (s : State) (file : List ℕ) : Type 0 where
   pub room : Room s.readings file
-  pub front : is_fault s.fault ≡ false → s.line ≡ Blank
+  pub front : s.fault ≡ None → s.line ≡ Blank
 
 -- What a piece of code does to a state s and its file, which become r and file'
 
@@ -85,15 +80,10 @@ pub record Takes (piece : List ℕ) (s : State) (file : List ℕ) (r : State) (f
 pub record EndsText (s : State) (file : List ℕ) (r : State) (file' : List ℕ) : Type 0 where
   pub room : Room r.readings file'
   pub meaning : ended r file' ≡ gives s file []
-  pub made : is_fault r.fault ≡ false → take (3 + r.readings) file' ≡ file_of (heard r.readings file')
+  pub made : r.fault ≡ None → take (3 + r.readings) file' ≡ file_of (heard r.readings file')
 
 -- The state and the file after some text, whatever pieces it came in
 pub record After (s : State) (file : List ℕ) : Type 0 where
   pub text : List ℕ
   pub room : Room s.readings file
   pub meaning : (t : List ℕ) → gives s file (lines t) ≡ outcome (text ++ t)
-
--- The first n bytes are the file of some text; no byte is where n is 0
-pub record Holds (n : ℕ) (file : List ℕ) : Type 0 where
-  pub within : IsPrefixLen n file
-  pub made : (n ≡ 0 → ⊥) → Made (take n file)

@@ -1,12 +1,12 @@
 -- What a text gives: the plant's file of its readings, or what is wrong with it. Assumes nothing.
-use Rattle.std.specs.Prelude.{cond, ◌≡◌, List, [], ◌∷◌, ◌++◌, ℕ, ◌+◌, ◌-◌, ◌/◌, ◌%◌, ◌^◌, min, eqb, ltb, length}
+use Rattle.std.specs.Prelude.{cond, ◌≡◌, List, [], ◌∷◌, ◌++◌, ℕ, ◌+◌, ◌-◌, ◌/◌, ◌%◌, ◌^◌, min, eqb, ltb, length, Some, None, Ok, Err}
 use Rattle.words.specs.Refusals.{longest}
 use Rattle.words.specs.PlantFile.{file_no}
-use Rattle.ppm_line.specs.declared.Said.{Said}
-use Rattle.ppm_line.specs.declared.Said.TheVariants as said
+use Rattle.ppm_line.specs.declared.LineFault.{LineFault}
+use Rattle.ppm_line.specs.declared.LineFault.TheVariants as line_fault
 use Rattle.ppm_text.specs.declared.Fault.{Fault}
 use Rattle.ppm_text.specs.declared.Fault.TheVariants as fault
-use Rattle.ppm_line.specs.Lines.{symbol_of, says}
+use Rattle.ppm_line.specs.Lines.{Said, symbol_of, says}
 
 -- the byte that ends a line
 abbrev pub line_end : ℕ
@@ -35,12 +35,16 @@ next_number k = min (k + 1) (2 ^ 64 - 1)
 unfoldable pub whole : List ℕ → Outcome
 whole ss = cond (eqb (length ss) 0) no_reading (symbols ss)
 
+-- what is wrong with a line, as a fault of its text
+abbrev pub fault_of : LineFault → Fault
+fault_of line_fault.NoNumber = fault.NoNumber
+fault_of line_fault.LongNumber = fault.LongNumber
+
 -- line k says this, after the readings ss; go is what the readings then give with the lines after it
 unfoldable pub given : Said → ℕ → List ℕ → (List ℕ → Outcome) → Outcome
-given said.Nothing k ss go = go ss
-given (said.Reading ppm) k ss go = cond (ltb (length ss) longest) (go (ss ++ (symbol_of ppm ∷ []))) (wrong fault.Many k)
-given said.NoNumber k ss go = wrong fault.NoNumber k
-given said.LongNumber k ss go = wrong fault.LongNumber k
+given (Ok None) k ss go = go ss
+given (Ok (Some ppm)) k ss go = cond (ltb (length ss) longest) (go (ss ++ (symbol_of ppm ∷ []))) (wrong fault.Many k)
+given (Err f) k ss go = wrong (fault_of f) k
 
 -- the lines from line k on, after the readings ss
 unfoldable pub from : ℕ → List ℕ → List (List ℕ) → Outcome
