@@ -7,14 +7,14 @@ use native.Mathlib.Nat.{pow-suc, mod-eq_of_lt, div-lt_iff_lt-mul, le-div_iff_mul
 use native.Mathlib.Numerals.{add-one}
 use native.Mathlib.Omega.{arith}
 use lib.Dec.{ltb}
-use lib.ListN.{length, get_or, take, set, length-append, length-set}
-use lib.Seq.{take-suc, take_all, take-length, paste, paste-zero, paste-suc, take-paste}
+use lib.ListN.{length, get_or, take, length-append}
+use lib.Seq.{take-suc}
 use borrow.Author.Tests.{lt-ltb, le-ltb}
 use mir.Syntax.{w64}
 use mir.Val.{Fits}
 use Rattle.io.specs.Digits as Io
 use Rattle.words.proofs.Tests.{by_test, le_or_lt}
-use Rattle.lines.specs.Text.{digits, decimal, field, fields, tail, line, decimal_room, field_room, Put}
+use Rattle.lines.specs.Text.{digits, decimal, field, fields, decimal_room, field_room, Page, Put}
 
 -- ---- digits
 
@@ -34,7 +34,7 @@ tenth_fewest k n h =
     rw e (tenth_above k n h)
 
 -- the fewest digits are those of the definition
-pub digits_are : (d k n : ℕ) → Io.IsDigitCount 10 1 n k → k ≤ d → Io.last_digits 10 k n ≡ digits d n
+digits_are : (d k n : ℕ) → Io.IsDigitCount 10 1 n k → k ≤ d → Io.last_digits 10 k n ≡ digits d n
 unfolding digits
 digits_are d zero n f h = absurd (omega arith)
 digits_are zero (suc k) n f h = absurd (omega arith)
@@ -48,14 +48,14 @@ digits_are (suc d) (suc (suc k)) n f h =
     rw (le-ltb n 10 (omega (arith, two_digits k)), lt-ltb (n % 10) 10 (omega arith)) (ap (λ (l : List ℕ). l ++ ((48 + n % 10) ∷ [])) rest)
 
 -- a number below 10 ^ p takes no more than p of them
-pub digits_few : (p k n : ℕ) → Io.IsDigitCount 10 1 n k → n < 10 ^ suc p → k ≤ suc p
+digits_few : (p k n : ℕ) → Io.IsDigitCount 10 1 n k → n < 10 ^ suc p → k ≤ suc p
 digits_few p k n f h = ⊎_elim
     (λ (l : k ≤ suc p). l)
     (λ (g : suc p < k). absurd (omega (arith, f.2 (omega arith), pow-le-pow_right {n = 10} (omega arith) {i = suc p} {j = k - 1} (omega arith))))
     (le_or_lt k (suc p))
 
 -- a number below 10 ^ p has at most p digits
-pub digits_le : (d p n : ℕ) → n < 10 ^ suc p → length (digits d n) ≤ suc p
+digits_le : (d p n : ℕ) → n < 10 ^ suc p → length (digits d n) ≤ suc p
 unfolding digits
 digits_le zero p n h = omega arith
 digits_le (suc d) zero n h = rw (lt-ltb n 10 h) (omega arith)
@@ -63,7 +63,7 @@ digits_le (suc d) (suc p) n h =
     let rest = digits_le d p (n / 10) (tenth_below (suc p) n h) in
     by_test (ltb n 10) (λ t. rw t (omega arith)) (λ t. rw t (simp length-append (omega arith)))
 
-pub decimal_le : (p n : ℕ) → n < 10 ^ suc p → length (decimal n) ≤ suc p
+decimal_le : (p n : ℕ) → n < 10 ^ suc p → length (decimal n) ≤ suc p
 unfolding decimal
 decimal_le p n h = digits_le decimal_room p n h
 
@@ -72,14 +72,35 @@ unfolding digits
 digits_most zero n = omega arith
 digits_most (suc d) n = by_test (ltb n 10) (λ t. rw t (omega arith)) (λ t. rw t (simp length-append (omega (arith, digits_most d (n / 10)))))
 
-decimal_most : (n : ℕ) → length (decimal n) ≤ decimal_room
+pub decimal_most : (n : ℕ) → length (decimal n) ≤ decimal_room
 unfolding decimal
 decimal_most n = digits_most decimal_room n
 
-pub decimal_fits : (n at m : ℕ) → at + decimal_room ≤ m → at + length (decimal n) ≤ m
-decimal_fits n at m h = omega (arith, decimal_most n)
+-- ---- numbers
 
--- ---- text behind text
+-- what `io` makes of a number are its digits
+pub decimal_is : {k n : ℕ} {s : List ℕ} → s ≡ Io.last_digits 10 k n → Io.IsDigitCount 10 1 n k → Fits w64 n → s ≡ decimal n
+unfolding decimal
+decimal_is {k = k} {n = n} e f w = e ∙ digits_are decimal_room k n f (digits_few 19 k n f (omega arith))
+
+-- an entry of a table has at most five digits
+entry_le : (n : ℕ) → n < 65536 → length (decimal n) ≤ 5
+entry_le n h = decimal_le 4 n (omega arith)
+
+length_field : (n : ℕ) → length (field n) ≡ 1 + length (decimal n)
+unfolding field
+length_field n = omega arith
+
+fields_append : (s t : List ℕ) → fields (s ++ t) ≡ fields s ++ fields t
+unfolding fields
+fields_append [] t = refl
+fields_append (n ∷ s) t = rw (fields_append s t) (sym (append_assoc (field n) (fields s) (fields t)))
+
+pub fields_one : (n : ℕ) → fields (n ∷ []) ≡ field n
+unfolding fields
+fields_one n = append-nil (field n)
+
+-- ---- text put behind the first `at` bytes of a buffer
 
 pub put_put : {a b c s t : List ℕ} {at e r : ℕ} → Put a at s b e → Put b e t c r → Put a at (s ++ t) c r
 put_put {a = a} {s = s} {t = t} {at = at} p q = record {
@@ -87,120 +108,25 @@ put_put {a = a} {s = s} {t = t} {at = at} p q = record {
   says = q.says ∙ rw p.says (append_assoc (take at a) s t);
 }
 
--- `word`: the first i bytes of w stand behind the text, and nothing else has changed
-pub record Copied (w before : List ℕ) (at : ℕ) (after : List ℕ) (i : ℕ) : Type 0 where
-  pub within : i ≤ length w
-  pub room : length after ≡ length before
-  pub is : after ≡ paste before at w i
+-- ---- the loop of `fields`
 
-pub copied_none : (w l : List ℕ) (at : ℕ) → Copied w l at l 0
-copied_none w l at = record { within = omega arith; room = refl; is = paste-zero l at w }
+-- the first i entries of t are put
+pub record Listed (t : List ℕ) (before after : Page) (i : ℕ) : Type 0 where
+  pub said : after.said ≡ before.said ++ fields (take i t)
+  pub room : after.room ≡ before.room
+  pub short : length after.said ≤ length before.said + field_room * i
 
-module _ {w before after : List ℕ} {at i : ℕ} (c : Copied w before at after i) where
-  pub copied_more : i < length w → at + length w ≤ length before → Copied w before at (set after (at + i) (get_or w i 0)) (i + 1)
-  copied_more h l = record {
-    within = omega arith;
-    room = simp length-set c.room;
-    is = rw (add-one, c.is) (paste-suc before at w i 0 (omega arith) h);
+pub listed_none : (t : List ℕ) (p : Page) → Listed t p p 0
+unfolding fields
+listed_none t p = record { said = sym (append-nil p.said); room = refl; short = omega arith }
+
+module _ {t : List ℕ} {before after : Page} {i n : ℕ} (c : Listed t before after i) (e : n ≡ get_or t i 0) (s : n < 65536) (h : i < length t) where
+  pub listed_room : length before.said + field_room * length t ≤ before.room → length after.said + (1 + length (decimal n)) ≤ after.room
+  listed_room l = omega (arith, entry_le n s, c.short, c.room)
+
+  pub listed_more : {r : Page} → r.said ≡ after.said ++ field n → r.room ≡ after.room → Listed t before r (i + 1)
+  listed_more f g = record {
+    said = rw (f, c.said, add-one, take-suc t i 0 h, fields_append, ← e, fields_one, append_assoc) refl;
+    room = g ∙ c.room;
+    short = omega (arith, c.short, entry_le n s, length_field n, length-append after.said (field n), ap length f);
   }
-
-  pub copied_whole : length w ≤ i → after ≡ paste before at w (length w)
-  copied_whole h =
-      let e : i ≡ length w = omega (arith, c.within) in
-      rw (← e) c.is
-
-  pub copied_all : length w ≤ i → at + length w ≤ length before → Put before at w after (at + i)
-  copied_all h l =
-      let e : i ≡ length w = omega (arith, c.within) in
-      rw (copied_whole h, e) (record {
-        end = refl;
-        says = take-paste before at w (length w) (omega arith) (omega arith) ∙ ap (λ (v : List ℕ). take at before ++ v) (take-length w);
-      })
-
--- ---- numbers behind the text
-
--- `number`: what `io` makes of a number are its digits
-module _ {k n : ℕ} {s : List ℕ} (e : s ≡ Io.last_digits 10 k n) (f : Io.IsDigitCount 10 1 n k) (w : Fits w64 n) where
-  pub decimal_is : s ≡ decimal n
-  unfolding decimal
-  decimal_is = e ∙ digits_are decimal_room k n f (digits_few 19 k n f (omega arith))
-
-  pub number_room : (at m : ℕ) → at + length (decimal n) ≤ m → at + length s ≤ m
-  number_room at m g = omega (arith, ap length decimal_is)
-
-  pub number_put : {a b : List ℕ} {at r : ℕ} → Put a at s b r → Put a at (decimal n) b r
-  number_put p = rw decimal_is at p
-
-  pub number_short : {a b : List ℕ} {at r : ℕ} → Put a at s b r → r ≤ at + decimal_room
-  number_short p = omega (arith, p.end, ap length decimal_is, decimal_most n)
-
--- `field`
-pub field_put : (n : ℕ) {a b c : List ℕ} {at e r : ℕ} → Put a at (32 ∷ []) b e → Put b e (decimal n) c r → Put a at (field n) c r
-unfolding field
-field_put n p q = put_put p q
-
--- an entry of a table has at most five digits
-entry_le : (n : ℕ) → n < 65536 → length (decimal n) ≤ 5
-entry_le n h = decimal_le 4 n (omega arith)
-
-field_length : (n : ℕ) → length (field n) ≡ 1 + length (decimal n)
-unfolding field
-field_length n = omega arith
-
--- `fields`: the first i entries of t are put
-pub record Listed (t before : List ℕ) (at : ℕ) (after : List ℕ) (end i : ℕ) : Type 0 where
-  pub within : i ≤ length t
-  pub room : length after ≡ length before
-  pub short : end ≤ at + field_room * i
-  pub put : Put before at (fields (take i t)) after end
-
-pub listed_none : (t l : List ℕ) (at : ℕ) → Listed t l at l at 0
-unfolding fields
-listed_none t l at = record { within = omega arith; room = refl; short = omega arith; put = record { end = omega arith; says = sym (append-nil (take at l)) } }
-
-fields_append : (s t : List ℕ) → fields (s ++ t) ≡ fields s ++ fields t
-unfolding fields
-fields_append [] t = refl
-fields_append (n ∷ s) t = rw (fields_append s t) (sym (append_assoc (field n) (fields s) (fields t)))
-
-fields_one : (n : ℕ) → fields (n ∷ []) ≡ field n
-unfolding fields
-fields_one n = append-nil (field n)
-
-module _ {t before after : List ℕ} {at end i : ℕ} (c : Listed t before at after end i) (h : i < length t) where
-  -- an entry that is read as n
-  module _ {n : ℕ} (e : n ≡ get_or t i 0) (s : n < 65536) where
-    pub listed_room : at + field_room * length t ≤ length before → end + 1 + length (decimal n) ≤ length after
-    listed_room l = omega (arith, entry_le n s, c.short, c.room)
-
-    pub listed_more : {b : List ℕ} {r : ℕ} → length b ≡ length after → Put after end (field n) b r → Listed t before at b r (i + 1)
-    listed_more l p = record {
-      within = omega arith;
-      room = l ∙ c.room;
-      short = omega (arith, p.end, c.short, field_length n, entry_le n s);
-      put = rw (add-one, take-suc t i 0 h, fields_append, ← e, fields_one) (put_put c.put p);
-    }
-
-module _ {t before after : List ℕ} {at end i : ℕ} (c : Listed t before at after end i) (h : length t ≤ i) where
-  pub listed_all : Put before at (fields t) after end
-  listed_all = rw (take_all i t h) at c.put
-
-  pub listed_short : end ≤ at + field_room * length t
-  listed_short = omega (arith, c.short, c.within)
-
--- ---- lines
-
--- `ended`
-pub ended_put : (t : List ℕ) {a b c : List ℕ} {at e r : ℕ} → Put a at (fields t) b e → Put b e (10 ∷ []) c r → Put a at (tail t) c r
-unfolding tail
-ended_put t p q = put_put p q
-
--- `line` and `numbered`
-pub line_put : (w t : List ℕ) {a b c : List ℕ} {at e r : ℕ} → Put a at w b e → Put b e (tail t) c r → Put a at (line w t) c r
-unfolding line
-line_put w t p q = put_put p q
-
--- `counted`
-pub counted_put : (w : List ℕ) (n : ℕ) {a b c d : List ℕ} {at e f r : ℕ} → Put a at w b e → Put b e (field n) c f → Put c f (10 ∷ []) d r
-    → Put a at (line w (n ∷ [])) d r
-counted_put w n p q s = line_put w (n ∷ []) p (ended_put (n ∷ []) (rw (fields_one n) q) s)

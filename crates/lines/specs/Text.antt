@@ -39,12 +39,16 @@ tail l = fields l ++ (10 ∷ [])
 unfoldable pub line : List ℕ → List ℕ → List ℕ
 line head l = head ++ tail l
 
+-- a text in the making: what it says so far, and how many bytes its buffer has
+pub record Page : Type 0 where
+  pub said : List ℕ
+  pub room : ℕ
+
+-- there is room for n bytes more
+abbrev pub Fits : Page → ℕ → Type 0
+Fits p n = length p.said + n ≤ p.room
+
 -- what a call that puts text behind the first `at` bytes of a buffer leaves in it, with the new end r
 pub record Put (before : List ℕ) (at : ℕ) (text after : List ℕ) (r : ℕ) : Type 0 where
   pub end : r ≡ at + length text
   pub says : take r after ≡ take at before ++ text
-
--- the first r bytes of l are the text
-pub record Says (l : List ℕ) (r : ℕ) (text : List ℕ) : Type 0 where
-  pub within : r ≤ length l
-  pub says : take r l ≡ text

@@ -1,114 +1,151 @@
-// Floor 4: lines of text, made in a lent buffer. `at` is how much of the buffer the text takes so far; each function puts something behind it and returns
-// where the text ends now.
+// Floor 4: lines of text, made in a lent buffer. A text knows how much of the buffer it takes so far; each method puts something behind that.
 #![tactic(auto)]
 
-ghost use Rattle.std.specs.Prelude.{◌≡◌, [], ◌∷◌, ◌+◌, ◌*◌, ◌≤◌, ◌<◌, length};
-ghost use Rattle.std.proofs.Math.Seq.{paste};
-ghost use Rattle.lines.specs.Text as Text;
+ghost use Rattle.std.specs.Prelude.{◌≡◌, [], ◌∷◌, ◌++◌, ◌+◌, ◌*◌, ◌≤◌, length};
+ghost use Rattle.lines.specs.Text as Lines;
+
+use std::marker::Model;
 
 // The most digits of a number, and the most bytes that a table's entry takes in a line (`decimal_room` and `field_room` of specs/).
 pub const DECIMAL: usize = 20;
 
 pub const FIELD: usize = 6;
 
-// ---- pieces
+#[derive(Drop)]
+pub struct Text<'a> {
+    bytes: &'a mut [u8],
+    len: usize,
+}
 
-// Puts a word; nothing else in the buffer changes.
-pub fn word(text: &mut [u8], at: usize, w: &[u8]) -> usize
-    requires { at + length w.now ≤ length text.old }
-    ensures put { Text.Put text.old at w.now text.new result }
-    ensures whole { text.new ≡ paste text.old at w.now (length w.now) }
-{
-    let mut i = 0;
-    while i < w.len() {
-        text[at + i] = w[i];
-        i += 1;
+// Contracts see what the text says so far, and the room that it was lent.
+impl<'a> Model for Text<'a> {
+    ghost use Rattle.std.specs.Prelude.{◌≤◌, length, take};
+    ghost use Rattle.lines.specs.Text.{Page};
+
+    ghost Value = { Page };
+
+    ghost view = { λ t. record { said = take t.len t.bytes.now; room = length t.bytes.now } };
+
+    ghost invariant = { λ t. t.len ≤ length t.bytes.now };
+}
+
+#[tactic(auto, using(crate::proofs::Texts::decimal_most), unfolding(crate::specs::Text::field, crate::specs::Text::tail, crate::specs::Text::line))]
+impl<'a> Text<'a> {
+    // No text yet.
+    pub fn new(bytes: &'a mut [u8]) -> Text<'a>
+        ensures { result ≡ record { said = []; room = length bytes.old } }
+    {
+        Text { bytes, len: 0 }
     }
-    at + i
-}
 
-// Puts a number's digits.
-fn number(text: &mut [u8], at: usize, n: usize) -> usize
-    requires { at + length (Text.decimal n) ≤ length text.old }
-    ensures put { Text.Put text.old at (Text.decimal n) text.new result }
-    ensures short { result ≤ at + Text.decimal_room }
-{
-    let mut digits = [0u8; DECIMAL];
-    let k = io::decimal(n as u64, &mut digits);
-    word(text, at, &digits[..k])
-}
-
-// Puts a space and a number.
-fn field(text: &mut [u8], at: usize, n: usize) -> usize
-    requires { at + 1 + length (Text.decimal n) ≤ length text.old }
-    ensures put { Text.Put text.old at (Text.field n) text.new result }
-    ensures short { result ≤ at + 1 + Text.decimal_room }
-{
-    let end = word(text, at, b" ");
-    number(text, end, n)
-}
-
-// An entry of a table as a number to put.
-fn wide(n: u16) -> usize
-    ensures { (result ≡ n) × (result < 65536) }
-{
-    n as usize
-}
-
-// Puts a space and an entry, for each entry of t.
-fn fields(text: &mut [u8], at: usize, t: &[u16]) -> usize
-    requires { at + Text.field_room * length t.now ≤ length text.old }
-    ensures put { Text.Put text.old at (Text.fields t.now) text.new result }
-    ensures short { result ≤ at + Text.field_room * length t.now }
-{
-    let mut end = at;
-    let mut i = 0;
-    while i < t.len() {
-        end = field(text, end, wide(t[i]));
-        i += 1;
+    pub fn as_slice(&self) -> &[u8]
+        ensures { result.now ≡ self.now.said }
+    {
+        &self.bytes[..self.len]
     }
-    end
-}
 
-// Puts the entries of t behind a head, and ends the line.
-fn ended(text: &mut [u8], head: usize, t: &[u16]) -> usize
-    requires { head + Text.field_room * length t.now + 1 ≤ length text.old }
-    ensures put { Text.Put text.old head (Text.tail t.now) text.new result }
-    ensures short { result ≤ head + Text.field_room * length t.now + 1 }
-{
-    let listed = fields(text, head, t);
-    word(text, listed, b"\n")
-}
+    // ---- pieces
 
-// ---- lines
+    // Puts a word.
+    pub fn word(&mut self, w: &[u8])
+        requires { Lines.Fits self.old (length w.now) }
+        ensures said { self.new.said ≡ self.old.said ++ w.now }
+        ensures room { self.new.room ≡ self.old.room }
+    {
+        let end = self.len + w.len();
+        self.bytes[self.len..end].copy_from_slice(w);
+        self.len = end;
+    }
 
-// A word and the entries of t.
-pub fn line(text: &mut [u8], at: usize, w: &[u8], t: &[u16]) -> usize
-    requires { at + length w.now + Text.field_room * length t.now + 1 ≤ length text.old }
-    ensures put { Text.Put text.old at (Text.line w.now t.now) text.new result }
-    ensures short { result ≤ at + length w.now + Text.field_room * length t.now + 1 }
-{
-    let head = word(text, at, w);
-    ended(text, head, t)
-}
+    // Puts a number's digits.
+    fn number(&mut self, n: usize)
+        requires { Lines.Fits self.old (length (Lines.decimal n)) }
+        ensures said { self.new.said ≡ self.old.said ++ (Lines.decimal n) }
+        ensures room { self.new.room ≡ self.old.room }
+        ensures short { length self.new.said ≤ length self.old.said + Lines.decimal_room }
+    {
+        let mut digits = [0u8; DECIMAL];
+        let k = io::decimal(n as u64, &mut digits);
+        self.word(&digits[..k]);
+    }
 
-// A number and the entries of t.
-pub fn numbered(text: &mut [u8], at: usize, n: usize, t: &[u16]) -> usize
-    requires { at + Text.decimal_room + Text.field_room * length t.now + 1 ≤ length text.old }
-    ensures put { Text.Put text.old at (Text.line (Text.decimal n) t.now) text.new result }
-    ensures short { result ≤ at + Text.decimal_room + Text.field_room * length t.now + 1 }
-{
-    let head = number(text, at, n);
-    ended(text, head, t)
-}
+    // Puts a space and a number.
+    fn field(&mut self, n: usize)
+        requires { Lines.Fits self.old (1 + length (Lines.decimal n)) }
+        ensures said { self.new.said ≡ self.old.said ++ (Lines.field n) }
+        ensures room { self.new.room ≡ self.old.room }
+        ensures short { length self.new.said ≤ length self.old.said + 1 + Lines.decimal_room }
+    {
+        self.word(b" ");
+        self.number(n);
+    }
 
-// A word and one number of any size.
-pub fn counted(text: &mut [u8], at: usize, w: &[u8], n: usize) -> usize
-    requires { at + length w.now + 1 + Text.decimal_room + 1 ≤ length text.old }
-    ensures put { Text.Put text.old at (Text.line w.now (n ∷ [])) text.new result }
-    ensures short { result ≤ at + length w.now + 1 + Text.decimal_room + 1 }
-{
-    let named = word(text, at, w);
-    let told = field(text, named, n);
-    word(text, told, b"\n")
+    // Puts a space and an entry, for each entry of t.
+    fn fields(&mut self, t: &[u16])
+        requires { Lines.Fits self.old (Lines.field_room * length t.now) }
+        ensures said { self.new.said ≡ self.old.said ++ (Lines.fields t.now) }
+        ensures room { self.new.room ≡ self.old.room }
+        ensures short { length self.new.said ≤ length self.old.said + Lines.field_room * length t.now }
+    {
+        for n in t {
+            self.field(usize::from(*n));
+        }
+    }
+
+    // Ends the line.
+    fn end(&mut self)
+        requires { Lines.Fits self.old 1 }
+        ensures said { self.new.said ≡ self.old.said ++ 10 ∷ [] }
+        ensures room { self.new.room ≡ self.old.room }
+        ensures short { length self.new.said ≤ length self.old.said + 1 }
+    {
+        self.word(b"\n");
+    }
+
+    // Puts the entries of t, and ends the line.
+    fn tail(&mut self, t: &[u16])
+        requires { Lines.Fits self.old (Lines.field_room * length t.now + 1) }
+        ensures said { self.new.said ≡ self.old.said ++ (Lines.tail t.now) }
+        ensures room { self.new.room ≡ self.old.room }
+        ensures short { length self.new.said ≤ length self.old.said + Lines.field_room * length t.now + 1 }
+    {
+        self.fields(t);
+        self.end();
+    }
+
+    // ---- lines
+
+    // A word and the entries of t.
+    pub fn line(&mut self, w: &[u8], t: &[u16])
+        requires { Lines.Fits self.old (length w.now + Lines.field_room * length t.now + 1) }
+        ensures said { self.new.said ≡ self.old.said ++ (Lines.line w.now t.now) }
+        ensures room { self.new.room ≡ self.old.room }
+        ensures short { length self.new.said ≤ length self.old.said + length w.now + Lines.field_room * length t.now + 1 }
+    {
+        self.word(w);
+        self.tail(t);
+    }
+
+    // A number and the entries of t.
+    pub fn numbered(&mut self, n: usize, t: &[u16])
+        requires { Lines.Fits self.old (Lines.decimal_room + Lines.field_room * length t.now + 1) }
+        ensures said { self.new.said ≡ self.old.said ++ (Lines.line (Lines.decimal n) t.now) }
+        ensures room { self.new.room ≡ self.old.room }
+        ensures short { length self.new.said ≤ length self.old.said + Lines.decimal_room + Lines.field_room * length t.now + 1 }
+    {
+        self.number(n);
+        self.tail(t);
+    }
+
+    // A word and one number of any size.
+    pub fn counted(&mut self, w: &[u8], n: usize)
+        requires { Lines.Fits self.old (length w.now + 1 + Lines.decimal_room + 1) }
+        ensures said { self.new.said ≡ self.old.said ++ (Lines.line w.now (n ∷ [])) }
+        ensures room { self.new.room ≡ self.old.room }
+        ensures short { length self.new.said ≤ length self.old.said + length w.now + 1 + Lines.decimal_room + 1 }
+    {
+        self.word(w);
+        self.field(n);
+        self.end();
+    }
 }
