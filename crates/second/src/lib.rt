@@ -4,90 +4,34 @@
 // i, q and m are lengths of prefixes of the log x. j is a number of readings skipped, from 0.
 #![tactic(auto)]
 
-ghost use Rattle.std.specs.Prelude.{◌≤◌};
+ghost use Rattle.std.specs.Prelude.{◌≤◌, length};
 
 const LONGEST: usize = 4096;
 
-fn same(a: &[u8], b: &[u8]) -> bool {
-    if a.len() != b.len() {
-        return false;
-    }
-    for k in 0..a.len() {
-        if a[k] != b[k] {
-            return false;
-        }
-    }
-    true
-}
-
 // The first q readings occur after j readings.
 pub fn occurs(x: &[u8], q: usize, j: usize) -> bool {
-    if x.len() < q {
-        return false;
-    }
-    if x.len() - q < j {
-        return false;
-    }
-    same(&x[0..q], &x[j..j + q])
+    q <= x.len() && j <= x.len() - q && x[..q] == x[j..j + q]
 }
 
 fn is_border(x: &[u8], i: usize, m: usize) -> bool {
-    if i <= m {
-        return false;
-    }
-    occurs(x, m, i - m)
+    m < i && occurs(x, m, i - m)
 }
 
 // Border table: the greatest border, 0 if none is nonempty.
 pub fn border(x: &[u8], i: usize) -> usize {
-    let mut m = i;
-    while 1 < m {
-        m -= 1;
-        if is_border(x, i, m) {
-            return m;
-        }
-    }
-    0
+    (1..i).rev().find(|m| is_border(x, i, *m)).unwrap_or(0)
 }
 
 // Prefix table: the greatest length that occurs at i.
 pub fn prefix(x: &[u8], i: usize) -> usize {
-    if i == 0 {
-        return 0;
-    }
-    let mut m = x.len();
-    while 0 < m {
-        if occurs(x, m, i - 1) {
-            return m;
-        }
-        m -= 1;
-    }
-    0
-}
-
-// 1 where the test passes, for counting.
-fn one_if(test: bool) -> usize
-    ensures { result ≤ 1 }
-{
-    if test { 1 } else { 0 }
-}
-
-fn mark(marks: &mut [u8]) {
-    for p in 0..marks.len() {
-        marks[p] = 1;
-    }
+    let Some(j) = i.checked_sub(1) else { return 0 };
+    (1..=x.len()).rev().find(|m| occurs(x, *m, j)).unwrap_or(0)
 }
 
 // Marks what the occurrence of the first q readings after j readings lies on, if there is one and it ends where the marks end or before.
 pub fn mark_occurrence(marks: &mut [u8], x: &[u8], q: usize, j: usize) {
-    if marks.len() < q {
-        return;
-    }
-    if marks.len() - q < j {
-        return;
-    }
-    if occurs(x, q, j) {
-        mark(&mut marks[j..j + q]);
+    if q <= marks.len() && j <= marks.len() - q && occurs(x, q, j) {
+        marks[j..j + q].fill(1);
     }
 }
 
@@ -97,26 +41,29 @@ pub fn mark_occurrences(marks: &mut [u8], x: &[u8], q: usize) {
     }
 }
 
-pub fn marked(marks: &[u8]) -> usize {
-    let mut count = 0;
-    for p in 0..marks.len() {
-        count += one_if(marks[p] == 1);
-    }
-    count
+pub fn marked(marks: &[u8]) -> usize
+    ensures { result ≤ length marks.now }
+{
+    marks.iter().filter(|m| **m == 1).count()
 }
 
-fn covered_within(marks: &mut [u8], x: &[u8], q: usize) -> usize {
-    mark_occurrences(marks, x, q);
+// How many of the first i positions are marked, where `mark` marks them; none past the limit.
+pub fn marked_by<F: Fn(&mut [u8])>(i: usize, mark: F) -> usize
+    requires { F.IsAlwaysCallable mark }
+    ensures { result ≤ i }
+{
+    let mut marks = [0u8; LONGEST];
+    if LONGEST < i {
+        return 0;
+    }
+    let marks = &mut marks[..i];
+    mark(marks);
     marked(marks)
 }
 
 // How many positions of x[1..i] the pattern x[1..q] covers.
 pub fn covered(x: &[u8], i: usize, q: usize) -> usize {
-    let mut marks = [0u8; LONGEST];
-    if LONGEST < i {
-        return 0;
-    }
-    covered_within(&mut marks[0..i], x, q)
+    marked_by(i, |marks| mark_occurrences(marks, x, q))
 }
 
 // The cover test.
@@ -124,75 +71,58 @@ pub fn covers(x: &[u8], i: usize, q: usize) -> bool {
     covered(x, i, q) == i
 }
 
-// List of covers: the shortest cover of x[1..i] that is longer than q; the greatest number if there is none.
-pub fn cover_after(x: &[u8], i: usize, q: usize) -> usize {
-    let mut p = q;
-    while p < i {
-        p += 1;
-        if covers(x, i, p) {
-            return p;
-        }
-    }
-    usize::MAX
+// List of covers: the shortest cover of x[1..i] that is longer than q.
+pub fn cover_after(x: &[u8], i: usize, q: usize) -> Option<usize> {
+    (q.saturating_add(1)..=i).find(|p| covers(x, i, *p))
 }
 
 // Cover table: the longest proper cover, 0 if none.
 pub fn cover(x: &[u8], i: usize) -> usize {
-    let mut q = i;
-    while 1 < q {
-        q -= 1;
-        if covers(x, i, q) {
-            return q;
+    (1..i).rev().find(|q| covers(x, i, *q)).unwrap_or(0)
+}
+
+// A pattern's length, and what it is worth.
+#[derive(Clone, Copy, Default, PartialEq, Eq, Debug)]
+pub struct Worth {
+    pub best: usize,
+    pub count: usize,
+}
+
+// The shortest nonempty length below i that is worth the most, zeros if none is worth anything: a longer one has to be worth more. Nothing is worth more
+// than all i positions.
+pub fn most<F: Fn(usize) -> usize>(i: usize, worth: F) -> Worth
+    requires { F.IsAlwaysCallable worth }
+    ensures { result.best ≤ i }
+{
+    let mut most = Worth::default();
+    for q in 1..i {
+        let count = worth(q);
+        if most.count < count {
+            most = Worth { best: q, count };
         }
-    }
-    0
-}
-
-// What x[1..q] is worth at i: the positions that it covers, if it is a border.
-fn worth(x: &[u8], i: usize, q: usize) -> usize {
-    if is_border(x, i, q) {
-        covered(x, i, q)
-    } else {
-        0
-    }
-}
-
-fn greater(a: usize, b: usize) -> usize {
-    if a < b { b } else { a }
-}
-
-// Enhanced table, Count: the most that a border is worth. Nothing is worth more than all i positions.
-pub fn count(x: &[u8], i: usize) -> usize {
-    let mut most = 0;
-    let mut q = 1;
-    while q < i {
-        most = greater(most, worth(x, i, q));
-        if most == i {
+        if most.count == i {
             return most;
         }
-        q += 1;
     }
     most
 }
 
-// Enhanced table, Best: the shortest border that is worth the most, 0 if none is nonempty.
-pub fn best(x: &[u8], i: usize) -> usize {
-    let most = count(x, i);
-    if most == 0 {
-        return 0;
-    }
-    let mut q = 1;
-    while q < i {
-        if worth(x, i, q) == most {
-            return q;
-        }
-        q += 1;
-    }
-    0
+// Enhanced table: a border is worth the positions that it covers.
+pub fn enhanced(x: &[u8], i: usize) -> Worth
+    ensures { result.best ≤ i }
+{
+    most(
+        i,
+        |q| if is_border(x, i, q) {
+            covered(x, i, q)
+        } else {
+            0
+        },
+    )
 }
 
 // A normal form with its length.
-#[derive(Clone, Copy)]
+#[derive(Clone, Copy, Default, PartialEq, Eq, Debug)]
 pub struct Form {
     pub len: usize,
     pub k1: usize,
@@ -200,14 +130,11 @@ pub struct Form {
     pub k: usize,
 }
 
-fn divided(i: usize, f: usize) -> Form {
+// The normal form of x[1..i]; zeros where i is 0.
+pub fn normal(x: &[u8], i: usize) -> Form {
+    let f = border(x, i);
     if i <= f {
-        return Form {
-            len: 0,
-            k1: 0,
-            k2: 0,
-            k: 0,
-        };
+        return Form::default();
     }
     let k1 = i - f;
     Form {
@@ -218,79 +145,40 @@ fn divided(i: usize, f: usize) -> Form {
     }
 }
 
-// The normal form of x[1..i]; zeros where i is 0.
-pub fn normal(x: &[u8], i: usize) -> Form {
-    divided(i, border(x, i))
-}
-
 // The length of the part after that of length i in the breakdown; 0 after the last.
 fn next(x: &[u8], i: usize) -> usize {
-    let f = normal(x, i);
-    if 0 < f.k2 {
-        return f.k2;
+    match normal(x, i) {
+        Form { k2, .. } if 0 < k2 => k2,
+        Form { k, k1, .. } if 1 < k => k1,
+        _ => 0,
     }
-    if 1 < f.k {
-        return f.k1;
-    }
-    0
 }
 
 // The part of the breakdown at a level, from 0; zeros after the last.
 pub fn part(x: &[u8], level: usize) -> Form {
-    let mut i = x.len();
-    let mut k = 0;
-    while k < level {
-        i = next(x, i);
-        k += 1;
-    }
-    normal(x, i)
+    normal(x, (0..level).fold(x.len(), |i, _| next(x, i)))
 }
 
 // How many parts the breakdown has.
 pub fn parts_used(x: &[u8]) -> usize {
-    let mut level = 0;
-    while level < LONGEST {
-        if part(x, level).len == 0 {
-            return level;
-        }
-        level += 1;
-    }
-    level
+    (0..LONGEST)
+        .find(|level| part(x, *level).len == 0)
+        .unwrap_or(LONGEST)
 }
 
 // x[1..q] is a nonempty border of x[1..i] that has no proper cover.
 fn weighs(x: &[u8], i: usize, q: usize) -> bool {
-    if q == 0 {
-        return false;
-    }
-    if is_border(x, i, q) {
-        cover(x, q) == 0
-    } else {
-        false
-    }
+    q != 0 && is_border(x, i, q) && cover(x, q) == 0
 }
 
 // The longest entry of the weighed list at i that is shorter than `top`; 0 if none.
 pub fn weighed_below(x: &[u8], i: usize, top: usize) -> usize {
-    let mut q = top;
-    while 0 < q {
-        q -= 1;
-        if weighs(x, i, q) {
-            return q;
-        }
-    }
-    0
+    (0..top).rev().find(|q| weighs(x, i, *q)).unwrap_or(0)
 }
 
 // The number used in the weighed list at i.
 pub fn weighed_used(x: &[u8], i: usize) -> usize {
-    let mut used = 0;
-    let mut q = 0;
-    while q < i {
-        used += one_if(weighs(x, i, q));
-        q += 1;
-    }
-    used
+    (0..i).filter(|q| weighs(x, i, *q)).count()
 }
 
 // The exponent of the greatest power of two not above i, by doubling; 0 where i is 0.
@@ -306,13 +194,7 @@ pub fn limit(i: usize) -> usize {
 
 // The weighed total of a log that is accepted.
 pub fn total(x: &[u8]) -> usize {
-    let mut sum = 0;
-    let mut i = 0;
-    while i < x.len() {
-        i += 1;
-        sum = std::num::wrapping_add_usize(sum, weighed_used(x, i));
-    }
-    sum
+    (1..=x.len()).fold(0, |sum: usize, i| sum.wrapping_add(weighed_used(x, i)))
 }
 
 const CEILING: u8 = 20;
@@ -321,19 +203,10 @@ const RECENT: usize = 60;
 
 // How many readings are at the ceiling: all but the others.
 pub fn ceiling(x: &[u8]) -> usize {
-    let mut others = 0;
-    for p in 0..x.len() {
-        others += one_if(x[p] != CEILING);
-    }
-    x.len() - others
+    x.len() - x.iter().filter(|b| **b != CEILING).count()
 }
 
 // Held: none of the last sixty readings, or of fewer, is another than the ceiling's. Each reading is asked how many there are from it to the end.
 pub fn held(x: &[u8]) -> bool {
-    for p in 0..x.len() {
-        if (x.len() - p <= RECENT) & (x[p] != CEILING) {
-            return false;
-        }
-    }
-    true
+    !(0..x.len()).any(|p| x.len() - p <= RECENT && x[p] != CEILING)
 }

@@ -1,44 +1,29 @@
 // The plant's file.
-ghost use Rattle.std.specs.Prelude.{◌<◌};
+ghost use Rattle.std.specs.Prelude.{◌≡◌, ◌+◌, length, IfOk};
 
-const VERSION: u8 = 6;
-
-const FILE: u8 = 7;
-
-const SYMBOL: u8 = 8;
+use crate::{No, breakdown};
 
 const CEILING: u8 = 20;
 
-fn wide(b: u8) -> usize
-    ensures { result < 256 }
+// The symbols of a file, or why it is refused.
+pub fn symbols(f: &[u8]) -> Result<&[u8], No>
+    ensures { IfOk result (λ s. length s.now + 3 ≡ length f.now) }
 {
-    b as usize
-}
-
-fn all_known(symbols: &[u8]) -> bool {
-    for p in 0..symbols.len() {
-        if CEILING < symbols[p] {
-            return false;
-        }
-    }
-    true
-}
-
-// The number that the reader answers to a file.
-pub fn number(f: &[u8]) -> u8 {
     if f.len() < 3 {
-        return FILE;
+        return Err(No::File);
     }
-    if f[0] != 1 {
-        return VERSION;
+    let (header, symbols) = f.split_at(3);
+    if header[0] != 1 {
+        return Err(No::Version);
     }
-    let n = wide(f[1]) * 256 + wide(f[2]);
-    let log = crate::breakdown(n);
-    if log != 0 {
-        return log;
+    let n = usize::from(header[1]) * 256 + usize::from(header[2]);
+    breakdown(n)?;
+    if symbols.len() != n {
+        return Err(No::File);
     }
-    if f.len() - 3 != n {
-        return FILE;
+    if symbols.iter().any(|s| CEILING < *s) {
+        Err(No::Symbol)
+    } else {
+        Ok(symbols)
     }
-    if all_known(&f[3..]) { 0 } else { SYMBOL }
 }

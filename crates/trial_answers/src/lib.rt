@@ -1,238 +1,158 @@
 // Holds each call that only answers, on one log, to the second way.
 #![tactic(auto)]
 
+use refusals::Refusal;
 use second::Form;
-use trial_base::calls;
+use second_no::No;
+use trial_base::calls::Call;
+use trial_base::line::Unwritten;
 use trial_base::tally::Tally;
-use trial_base::way::Way;
-use words::{CoverTest, Part, wide};
+use trial_base::way::Case;
+use words::{BREAKDOWN_PLACES, Part, WEIGHED_PLACES};
 
-// The place asked for; 0 where the call is refused, at which the second way gives zeros.
-fn accepted(number: u8, i: usize) -> usize {
-    if number == 0 { i } else { 0 }
+// Both refuse, with one number, or neither does and the answer is `right`.
+fn agree<T: Drop, F: FnOnce(T) -> bool>(got: Result<T, Refusal>, want: Result<(), No>, right: F) -> bool
+    requires { F.IsAlwaysCallable right }
+{
+    match (got, want) {
+        (Ok(answer), Ok(())) => right(answer),
+        (Err(got), Err(want)) => u8::from(got) == u8::from(want),
+        _ => false,
+    }
+}
+
+fn form(p: Part) -> Form {
+    Form {
+        len: usize::from(p.len),
+        k1: usize::from(p.k1),
+        k2: usize::from(p.k2),
+        k: usize::from(p.k),
+    }
 }
 
 fn normal(x: &[u8], i: usize) -> bool {
-    let got = finder::normal_form(x, i);
-    let number = second_no::prefix(x.len(), i);
-    let want = second::normal(x, accepted(number, i));
-    (got.number == number)
-        & (wide(got.k1) == want.k1)
-        & (wide(got.k2) == want.k2)
-        & (wide(got.k) == want.k)
+    let want = second_no::prefix(x.len(), i);
+    agree(finder::normal_form(x, i), want, |f| form(f) == second::normal(x, i))
 }
 
-fn same_places(x: &[u8], i: usize, lens: [u16; 12]) -> bool {
+fn same_places(x: &[u8], i: usize, lens: [u16; WEIGHED_PLACES]) -> bool {
     let mut q = i;
-    let mut k = 0;
-    while k < 12 {
+    for len in lens {
         q = second::weighed_below(x, i, q);
-        if wide(lens[k]) != q {
+        if usize::from(len) != q {
             return false;
         }
-        k += 1;
     }
     true
 }
 
 fn weighed(x: &[u8], i: usize) -> bool {
-    let got = finder::weighed_list(x, i);
-    let number = second_no::prefix(x.len(), i);
-    let place = accepted(number, i);
-    let lens = got.lens;
-    if got.number != number {
-        return false;
-    }
-    if wide(got.used) != second::weighed_used(x, place) {
-        return false;
-    }
-    if wide(got.limit) != second::limit(place) {
-        return false;
-    }
-    same_places(x, place, lens)
+    let want = second_no::prefix(x.len(), i);
+    agree(finder::weighed_list(x, i), want, |w| {
+        w.number == 0
+            && usize::from(w.used) == second::weighed_used(x, i)
+            && usize::from(w.limit) == second::limit(i)
+            && same_places(x, i, w.lens)
+    })
 }
 
 // Number and limit of a weighed list, and that the limit is kept.
 fn limit(x: &[u8], i: usize) -> bool {
-    let got = finder::weighed_list(x, i);
-    let number = second_no::prefix(x.len(), i);
-    (got.number == number)
-        & (wide(got.limit) == second::limit(accepted(number, i)))
-        & (got.used <= got.limit)
+    let want = second_no::prefix(x.len(), i);
+    agree(finder::weighed_list(x, i), want, |w| {
+        w.number == 0 && usize::from(w.limit) == second::limit(i) && w.used <= w.limit
+    })
 }
 
-fn at_place(t: Tally, w: Way, x: &[u8], i: usize) -> Tally {
-    if w.picks(i, x.len()) {
-        let seen = t.see(calls::NORMAL, x, i, normal(x, i));
-        return seen.see(calls::WEIGHED, x, i, weighed(x, i));
+fn at_place(t: &mut Tally, c: Case, i: usize) -> Result<(), Unwritten> {
+    if c.way.picks(i, c.x.len()) {
+        t.see(Call::Normal, c.x, i, normal(c.x, i))?;
+        t.see(Call::Weighed, c.x, i, weighed(c.x, i))
+    } else {
+        t.see(Call::Weighed, c.x, i, limit(c.x, i))
     }
-    t.see(calls::WEIGHED, x, i, limit(x, i))
 }
 
 // Normal forms and weighed lists at every place, those that are refused too.
-fn at_places(t: Tally, w: Way, x: &[u8]) -> Tally {
-    let mut seen = at_place(t, w, x, usize::MAX);
-    let mut i = 0;
-    while i < x.len() {
-        seen = at_place(seen, w, x, i);
-        i += 1;
+fn at_places(t: &mut Tally, c: Case) -> Result<(), Unwritten> {
+    at_place(t, c, usize::MAX)?;
+    for i in 0..=c.x.len().saturating_add(1) {
+        at_place(t, c, i)?;
     }
-    at_place(
-        at_place(seen, w, x, i),
-        w,
-        x,
-        std::num::wrapping_add_usize(i, 1),
-    )
+    Ok(())
 }
 
-// An answer of the cover test as a number: that of the refusal, or one that no refusal has.
-const YES: u16 = 1000;
-
-const NO: u16 = 1001;
-
-fn covers(x: &[u8], i: usize, q: usize) -> u16 {
-    match finder::cover_test(x, i, q) {
-        CoverTest::Yes => YES,
-        CoverTest::No => NO,
-        CoverTest::Refused(number) => number as u16,
-    }
+fn covers(x: &[u8], i: usize, q: usize) -> bool {
+    let want = second_no::cover_test(x.len(), i, q);
+    agree(finder::cover_test(x, i, q), want, |yes| yes == second::covers(x, i, q))
 }
 
-fn covers_by_second(x: &[u8], i: usize, q: usize) -> u16 {
-    let number = second_no::cover_test(x.len(), i, q);
-    if number != 0 {
-        return number as u16;
+fn cover_test(t: &mut Tally, c: Case, i: usize, q: usize) -> Result<(), Unwritten> {
+    if c.way.picks(q, i) {
+        t.see(Call::CoverTest, c.x, i, covers(c.x, i, q))?;
     }
-    if second::covers(x, i, q) { YES } else { NO }
+    Ok(())
 }
 
-fn cover_test(t: Tally, w: Way, x: &[u8], i: usize, q: usize) -> Tally {
-    if w.picks(q, i) {
-        return t.see(
-            calls::COVER_TEST,
-            x,
-            i,
-            covers(x, i, q) == covers_by_second(x, i, q),
-        );
+fn cover_tests_at(t: &mut Tally, c: Case, i: usize) -> Result<(), Unwritten> {
+    if !c.way.picks(i, c.x.len()) {
+        return Ok(());
     }
-    t
-}
-
-fn cover_tests_at(t: Tally, w: Way, x: &[u8], i: usize) -> Tally {
-    let mut seen = cover_test(t, w, x, i, usize::MAX);
-    let mut q = 0;
-    while q < x.len() {
-        seen = cover_test(seen, w, x, i, q);
-        q += 1;
+    cover_test(t, c, i, usize::MAX)?;
+    for q in 0..=c.x.len().saturating_add(1) {
+        cover_test(t, c, i, q)?;
     }
-    cover_test(
-        cover_test(seen, w, x, i, q),
-        w,
-        x,
-        i,
-        std::num::wrapping_add_usize(q, 1),
-    )
-}
-
-fn cover_tests_from(t: Tally, w: Way, x: &[u8], i: usize) -> Tally {
-    if w.picks(i, x.len()) {
-        cover_tests_at(t, w, x, i)
-    } else {
-        t
-    }
+    Ok(())
 }
 
 // Cover tests of every pattern at every place, those that are refused too.
-fn cover_tests(t: Tally, w: Way, x: &[u8]) -> Tally {
-    let mut seen = cover_tests_from(t, w, x, usize::MAX);
-    let mut i = 0;
-    while i < x.len() {
-        seen = cover_tests_from(seen, w, x, i);
-        i += 1;
+fn cover_tests(t: &mut Tally, c: Case) -> Result<(), Unwritten> {
+    cover_tests_at(t, c, usize::MAX)?;
+    for i in 0..=c.x.len().saturating_add(1) {
+        cover_tests_at(t, c, i)?;
     }
-    cover_tests_from(
-        cover_tests_from(seen, w, x, i),
-        w,
-        x,
-        std::num::wrapping_add_usize(i, 1),
-    )
+    Ok(())
 }
 
-fn same_part(got: Part, want: Form) -> bool {
-    (wide(got.len) == want.len)
-        & (wide(got.k1) == want.k1)
-        & (wide(got.k2) == want.k2)
-        & (wide(got.k) == want.k)
-}
-
-fn same_parts(x: &[u8], parts: [Part; 13]) -> bool {
-    let mut k = 0;
-    while k < 13 {
-        if !same_part(parts[k], second::part(x, k)) {
-            return false;
-        }
-        k += 1;
-    }
-    true
+fn same_parts(x: &[u8], parts: [Part; BREAKDOWN_PLACES]) -> bool {
+    parts.iter().enumerate().all(|(level, p)| form(*p) == second::part(x, level))
 }
 
 fn breakdown(x: &[u8]) -> bool {
-    let got = finder::breakdown(x);
-    let number = second_no::breakdown(x.len());
-    let n = accepted(number, x.len());
-    if x.len() < n {
-        return false;
-    }
-    let p = &x[0..n];
-    let parts = got.parts;
-    if got.number != number {
-        return false;
-    }
-    if wide(got.used) != second::parts_used(p) {
-        return false;
-    }
-    same_parts(p, parts)
+    let want = second_no::breakdown(x.len());
+    agree(finder::breakdown(x), want, |b| {
+        b.number == 0 && usize::from(b.used) == second::parts_used(x) && same_parts(x, b.parts)
+    })
 }
 
 fn best_pattern(x: &[u8]) -> bool {
-    let best = second::best(x, x.len());
-    let number = second_no::best_pattern(x.len(), best);
-    let q = accepted(number, best);
-    if x.len() < q {
-        return false;
-    }
-    let p = finder::pattern(x);
-    (p.number == number)
-        & (p.len == q)
-        & (finder::best_pattern_number(x) == number)
-        & check::same(finder::best_pattern(x), &x[0..q])
+    let best = second::enhanced(x, x.len()).best;
+    let want = second_no::best_pattern(x.len(), best);
+    let number = want.map_or_else(u8::from, |()| 0);
+    agree(finder::pattern(x), want, |len| len == best)
+        && finder::best_pattern_number(x) == number
+        && finder::best_pattern(x) == &x[..best]
 }
 
 fn ceiling(x: &[u8]) -> bool {
-    let got = finder::ceiling(x);
-    let number = second_no::breakdown(x.len());
-    if number != 0 {
-        return (got.number == number) & (got.held == 0) & (got.ceiling == 0);
-    }
-    (got.number == 0)
-        & (got.held == flag(second::held(x)))
-        & (wide(got.ceiling) == second::ceiling(x))
-}
-
-fn flag(test: bool) -> u8 {
-    if test { 1 } else { 0 }
+    let want = second_no::breakdown(x.len());
+    agree(finder::ceiling(x), want, |c| {
+        c.number == 0
+            && c.held == u8::from(second::held(x))
+            && usize::from(c.ceiling) == second::ceiling(x)
+    })
 }
 
 // The ceiling alone, of a log for which every call would take too long.
-pub fn at_ceiling(t: Tally, x: &[u8]) -> Tally {
-    t.see(calls::CEILING, x, 0, ceiling(x))
+pub fn at_ceiling(t: &mut Tally, x: &[u8]) -> Result<(), Unwritten> {
+    t.see(Call::Ceiling, x, 0, ceiling(x))
 }
 
 // Every call that only answers.
-pub fn all(t: Tally, w: Way, x: &[u8]) -> Tally {
-    let t1 = at_places(t, w, x);
-    let t2 = cover_tests(t1, w, x);
-    let t3 = t2.see(calls::BREAKDOWN, x, 0, breakdown(x));
-    let t4 = t3.see(calls::BEST_PATTERN, x, 0, best_pattern(x));
-    at_ceiling(t4, x)
+pub fn all(t: &mut Tally, c: Case) -> Result<(), Unwritten> {
+    at_places(t, c)?;
+    cover_tests(t, c)?;
+    t.see(Call::Breakdown, c.x, 0, breakdown(c.x))?;
+    t.see(Call::BestPattern, c.x, 0, best_pattern(c.x))?;
+    at_ceiling(t, c.x)
 }

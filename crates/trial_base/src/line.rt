@@ -1,14 +1,14 @@
-// What the trial prints. `whole` is whether all before was written, and the answer whether this was too: after the first piece that cannot be written no
-// other is tried.
-pub fn say(rt: &HostRuntime, whole: bool, text: &[u8]) -> bool {
-    whole && output::write(rt, text)
-}
+// What the trial prints.
+use std::fmt::Display;
 
-pub fn decimal(rt: &HostRuntime, whole: bool, n: u64) -> bool {
-    whole && output::decimal(rt, n)
-}
+// A piece cannot be written. Standard error says so already, and no more is compared.
+#[derive(Clone, Copy, PartialEq, Eq, Debug)]
+pub struct Unwritten;
 
-// A number after a space.
-pub fn number(rt: &HostRuntime, whole: bool, n: u64) -> bool {
-    decimal(rt, say(rt, whole, b" "), n)
+pub fn say(rt: &HostRuntime, piece: impl Display + Drop) -> Result<(), Unwritten> {
+    if rt.print(piece).is_ok() || output::fail(rt) {
+        Ok(())
+    } else {
+        Err(Unwritten)
+    }
 }

@@ -1,50 +1,31 @@
 // How much of one kind was compared, and how much differed. The kind's name is printed before, so that the first difference stands in its line.
-use crate::calls;
-use crate::line::{decimal, number, say};
+use crate::calls::Call;
+use crate::line::{Unwritten, say};
+use std::fmt::Display;
 
-// `before` is how much of the kinds before differed, and `whole` whether all of the output was written.
-#[derive(Clone, Copy)]
+// `before` is how much of the kinds before differed. At the greatest number a count stays: it must not come round to 0.
+#[derive(Drop)]
 pub struct Tally {
-    pub tried: u64,
-    pub compared: u64,
-    pub different: u64,
-    pub before: u64,
-    pub whole: bool,
+    tried: u64,
+    compared: u64,
+    different: u64,
+    before: u64,
     rt: HostRuntime,
 }
 
-// At the greatest number a count stays: it must not come round to 0.
-fn plus(a: u64, b: u64) -> u64 {
-    if a <= u64::MAX - b { a + b } else { u64::MAX }
-}
-
-fn one_more(n: u64) -> u64 {
-    plus(n, 1)
-}
-
-fn byte(b: u8) -> u64 {
-    b as u64
-}
-
 // The first twelve readings: the whole of a small log.
-fn readings(rt: &HostRuntime, whole: bool, x: &[u8]) -> bool {
-    let mut all = whole;
-    let mut k = 0;
-    while k < x.len() {
-        if k == 12 {
-            return all;
-        }
-        all = number(rt, all, byte(x[k]));
-        k += 1;
+fn readings(rt: &HostRuntime, x: &[u8]) -> Result<(), Unwritten> {
+    for reading in x.iter().take(12) {
+        say(rt, format_args!(" {reading}"))?;
     }
-    all
+    Ok(())
 }
 
-fn tell(rt: &HostRuntime, whole: bool, call: u8, x: &[u8], row: usize) -> bool {
-    let named = calls::name(rt, say(rt, whole, b" FIRST DIFFERENT:"), call);
-    let placed = number(rt, say(rt, named, b", row"), row as u64);
-    let measured = number(rt, say(rt, placed, b", length"), x.len() as u64);
-    say(rt, readings(rt, say(rt, measured, b":"), x), b";")
+fn tell(rt: &HostRuntime, call: Call, x: &[u8], row: usize) -> Result<(), Unwritten> {
+    let n = x.len();
+    say(rt, format_args!(" FIRST DIFFERENT: {call}, row {row}, length {n}:"))?;
+    readings(rt, x)?;
+    say(rt, ";")
 }
 
 impl Tally {
@@ -54,61 +35,52 @@ impl Tally {
             compared: 0,
             different: 0,
             before: 0,
-            whole: true,
             rt,
         }
     }
 
     // Begins the line of a kind.
-    pub fn begin(self, name: &[u8]) -> Tally {
-        Tally {
-            tried: 0,
-            compared: 0,
-            different: 0,
-            before: self.before,
-            whole: say(&self.rt, self.whole, name),
-            rt: self.rt,
-        }
+    pub fn begin(&mut self, name: impl Display + Drop) -> Result<(), Unwritten> {
+        self.tried = 0;
+        self.compared = 0;
+        self.different = 0;
+        self.say(name)
     }
 
     // Goes on with it.
-    pub fn say(mut self, text: &[u8]) -> Tally {
-        self.whole = say(&self.rt, self.whole, text);
-        self
+    pub fn say(&self, text: impl Display + Drop) -> Result<(), Unwritten> {
+        say(&self.rt, text)
     }
 
     // One more log or file.
-    pub fn more(mut self) -> Tally {
-        self.tried = one_more(self.tried);
-        self
+    pub fn more(&mut self) {
+        self.tried = self.tried.saturating_add(1);
     }
 
     // One comparison, at a row of a call on x. Row 0 is the call's own answer.
-    pub fn see(mut self, call: u8, x: &[u8], row: usize, same: bool) -> Tally {
-        self.compared = one_more(self.compared);
+    pub fn see(&mut self, call: Call, x: &[u8], row: usize, same: bool) -> Result<(), Unwritten> {
+        self.compared = self.compared.saturating_add(1);
         if same {
-            return self;
+            return Ok(());
         }
-        if self.different == 0 {
-            self.whole = tell(&self.rt, self.whole, call, x, row);
+        self.different = self.different.saturating_add(1);
+        if self.different == 1 {
+            tell(&self.rt, call, x, row)?;
         }
-        self.different = one_more(self.different);
-        self
+        Ok(())
     }
 
     // Ends the kind's line. What was tried is logs or files.
-    pub fn end(mut self, tried: &[u8]) -> Tally {
-        let rt = &self.rt;
-        let counted = say(rt, number(rt, self.whole, self.tried), tried);
-        let compared = say(rt, number(rt, counted, self.compared), b" comparisons,");
-        self.whole = say(rt, number(rt, compared, self.different), b" different\n");
-        self.before = plus(self.before, self.different);
-        self
+    pub fn end(&mut self, tried: &str) -> Result<(), Unwritten> {
+        self.before = self.before.saturating_add(self.different);
+        say(
+            &self.rt,
+            format_args!(" {} {tried}, {} comparisons, {} different\n", self.tried, self.compared, self.different),
+        )
     }
 
     // The last line: what differed of all kinds.
-    pub fn close(self) {
-        let rt = &self.rt;
-        say(rt, decimal(rt, self.whole, self.before), b" different\n");
+    pub fn close(&self) -> Result<(), Unwritten> {
+        say(&self.rt, format_args!("{} different\n", self.before))
     }
 }

@@ -1,5 +1,7 @@
 // How a call is tried: what stands in a lent table before it, and at which rows its answers are held to the second way.
-#[derive(Clone, Copy)]
+ghost use Rattle.std.specs.Prelude.{◌≡◌, ◌↔◌, IsTrue};
+
+#[derive(Clone, Copy, PartialEq, Eq, Debug)]
 pub struct Way {
     pub was: u16,
     pub first: usize,
@@ -16,27 +18,33 @@ impl Way {
         }
     }
 
+    pub fn is_whole(self) -> bool
+        ensures { IsTrue result ↔ (self.every ≡ 1) }
+    {
+        self.every == 1
+    }
+
     // Of n rows the first ones, then one in every so many, and the last; and every place past them, where calls are refused.
     pub fn picks(self, row: usize, n: usize) -> bool {
-        let every = self.every;
-        if row <= self.first {
-            return true;
-        }
-        if n <= row {
-            return true;
-        }
-        if every == 0 { false } else { row % every == 0 }
+        row <= self.first || n <= row || row.checked_rem(self.every) == Some(0)
     }
 
     // What stands before a call in the row after r others: numbers that rise by one.
     pub fn before(self, r: usize) -> u16 {
-        let was = self.was;
-        ((words::wide(was) + r % 4096) % 65536) as u16
+        self.was.wrapping_add((r % 4096) as u16)
+    }
+
+    // Fills a table with it.
+    pub fn fill(self, t: &mut [u16]) {
+        for (r, entry) in t.iter_mut().enumerate() {
+            *entry = self.before(r);
+        }
     }
 }
 
-pub fn fill(w: Way, t: &mut [u16]) {
-    for r in 0..t.len() {
-        t[r] = w.before(r);
-    }
+// A log, and how calls are tried on it.
+#[derive(Clone, Copy)]
+pub struct Case<'a> {
+    pub way: Way,
+    pub x: &'a [u8],
 }

@@ -1,6 +1,9 @@
 // Holds what is said of the ceiling to the second way, on logs that are at it but for two readings at most.
 #![tactic(auto)]
 
+ghost use Rattle.std.specs.Prelude.{◌<◌, ◌^◌};
+
+use trial_base::line::Unwritten;
 use trial_base::tally::Tally;
 
 const MOST: usize = 124;
@@ -8,72 +11,66 @@ const MOST: usize = 124;
 const LONGEST: usize = 4097;
 
 // The reading after the first i is 19 and the one after the first j is 21; where they are one, it is 21.
-fn with_two(t: Tally, x: &mut [u8], i: usize, j: usize) -> Tally {
-    if x.len() <= i || x.len() <= j || !t.whole {
-        return t;
+fn with_two(t: &mut Tally, x: &mut [u8], i: usize, j: usize) -> Result<(), Unwritten> {
+    if x.len() <= i || x.len() <= j {
+        return Ok(());
     }
     x[i] = 19;
     x[j] = 21;
-    trial_answers::at_ceiling(t.more(), x)
+    t.more();
+    trial_answers::at_ceiling(t, x)
 }
 
-fn log(t: Tally, n: usize, i: usize, j: usize) -> Tally {
-    let mut x = [20u8; MOST];
-    if MOST < n {
-        return t;
+// A log of n readings, in room for ROOM.
+fn log<const ROOM: usize>(t: &mut Tally, n: usize, i: usize, j: usize) -> Result<(), Unwritten>
+    requires { ROOM < 2 ^ 32 }
+{
+    let mut x = [20u8; ROOM];
+    if ROOM < n {
+        return Ok(());
     }
-    with_two(t, &mut x[0..n], i, j)
+    with_two(t, &mut x[..n], i, j)
 }
 
 // The second of the two at every place from the first on.
-fn second_from(t: Tally, n: usize, i: usize) -> Tally {
-    let mut seen = t;
+fn second_from(t: &mut Tally, n: usize, i: usize) -> Result<(), Unwritten> {
     for j in i..n {
-        seen = log(seen, n, i, j);
+        log::<MOST>(t, n, i, j)?;
     }
-    seen
+    Ok(())
 }
 
-fn of_length(t: Tally, n: usize) -> Tally {
-    let mut seen = t;
+fn of_length(t: &mut Tally, n: usize) -> Result<(), Unwritten> {
     for i in 0..n {
-        seen = second_from(seen, n, i);
+        second_from(t, n, i)?;
     }
-    seen
+    Ok(())
 }
 
-fn flat(t: Tally, n: usize) -> Tally {
+fn flat(t: &mut Tally, n: usize) -> Result<(), Unwritten> {
     let x = [20u8; MOST];
     if MOST < n {
-        return t;
+        return Ok(());
     }
-    trial_answers::at_ceiling(t.more(), &x[0..n])
+    t.more();
+    trial_answers::at_ceiling(t, &x[..n])
 }
 
 // Flat logs, and logs with two others at all places, of every length to twice sixty and a few more.
-pub fn all(t: Tally) -> Tally {
-    let mut seen = t;
+pub fn all(t: &mut Tally) -> Result<(), Unwritten> {
     for n in 0..=MOST {
-        seen = of_length(flat(seen, n), n);
+        flat(t, n)?;
+        of_length(t, n)?;
     }
-    seen.end(b" logs,")
-}
-
-fn long_log(t: Tally, n: usize, j: usize) -> Tally {
-    let mut x = [20u8; LONGEST];
-    if LONGEST < n {
-        return t;
-    }
-    with_two(t, &mut x[0..n], j, j)
+    t.end("logs,")
 }
 
 // With one other, so many places before the end.
-pub fn long(t: Tally) -> Tally {
-    let mut seen = t;
-    for back in 1..=62usize {
-        seen = long_log(seen, 4095, 4095 - back);
-        seen = long_log(seen, 4096, 4096 - back);
-        seen = long_log(seen, 4097, 4097 - back);
+pub fn long(t: &mut Tally) -> Result<(), Unwritten> {
+    for back in 1..=62 {
+        for n in [4095, 4096, 4097] {
+            log::<LONGEST>(t, n, n - back, n - back)?;
+        }
     }
-    seen.end(b" logs,")
+    t.end("logs,")
 }

@@ -1,76 +1,66 @@
 // Holds the left covers and left seeds of one log to the second way.
 #![tactic(auto)]
 
-use trial_base::calls;
+use refusals::Refusal;
+use second::Worth;
+use trial_base::calls::{Call, Left};
+use trial_base::line::Unwritten;
 use trial_base::tally::Tally;
-use trial_base::way::{Way, fill};
-use trial_tables::rows::{compare, least, written};
+use trial_base::way::Case;
+use trial_tables::rows::{Span, compare};
 
 // The most rows that can be lent. A case that needs more is not tried, and counts as a difference.
 const ROOM: usize = 4100;
 
-fn write(call: u8, x: &[u8], best: &mut [u16], count: &mut [u16]) -> u8 {
-    match call {
-        calls::LEFT_COVERS => finder::left_covers(x, best, count).number,
-        _ => finder::left_seeds(x, best, count).number,
-    }
-}
-
-fn asked(w: Way, call: u8, x: &[u8], best: &mut [u16], count: &mut [u16]) -> u8 {
-    fill(w, best);
-    fill(w, count);
-    write(call, x, best, count)
-}
-
-fn best_of(call: u8) -> u8 {
-    match call {
-        calls::LEFT_COVERS => calls::LEFT_COVER,
-        _ => calls::LEFT_SEED,
-    }
-}
-
-fn count_of(call: u8) -> u8 {
-    match call {
-        calls::LEFT_COVERS => calls::LEFT_COVER_COUNT,
-        _ => calls::LEFT_SEED_COUNT,
-    }
-}
-
-fn compare_both(
-    t: Tally,
-    w: Way,
-    call: u8,
-    x: &[u8],
-    got: u8,
+fn compare_both<S: Fn(&[u8], usize) -> Worth>(
+    t: &mut Tally,
+    c: Case,
+    left: Left,
+    got: Result<(), Refusal>,
     best: &[u16],
     count: &[u16],
-) -> Tally {
-    let number = second_no::table(x.len(), least(best.len(), count.len()));
-    let s = written(number, 0, x.len());
-    let t1 = t.see(call, x, 0, got == number);
-    let t2 = compare(t1, w, best_of(call), x, s, best);
-    compare(t2, w, count_of(call), x, s, count)
+    second: S,
+) -> Result<(), Unwritten>
+    requires { S.IsAlwaysCallable second }
+{
+    let want = second_no::table(c.x.len(), best.len().min(count.len()));
+    let s = Span::written(want, 0, c.x.len());
+    t.see(Call::Left(left), c.x, 0, got.map_err(u8::from) == want.map_err(u8::from))?;
+    compare(t, c, s, Call::LeftBest(left), best, |x, i| second(x, i).best)?;
+    compare(t, c, s, Call::LeftCount(left), count, |x, i| second(x, i).count)
 }
 
-fn lent(t: Tally, w: Way, call: u8, x: &[u8], best: &mut [u16], count: &mut [u16]) -> Tally {
-    let got = asked(w, call, x, best, count);
-    compare_both(t, w, call, x, got, best, count)
-}
-
-fn one(t: Tally, w: Way, call: u8, x: &[u8], a: usize, b: usize) -> Tally {
+// One of the two calls, as `ask` writes it, with tables of a and of b rows.
+fn one<A: Fn(&[u8], &mut [u16], &mut [u16]) -> Result<(), Refusal>, S: Fn(&[u8], usize) -> Worth>(
+    t: &mut Tally,
+    c: Case,
+    left: Left,
+    a: usize,
+    b: usize,
+    ask: A,
+    second: S,
+) -> Result<(), Unwritten>
+    requires asked { A.IsAlwaysCallable ask }
+    requires held { S.IsAlwaysCallable second }
+{
     let mut best = [0u16; ROOM];
     let mut count = [0u16; ROOM];
     if ROOM < a {
-        return t.see(call, x, 0, false);
+        return t.see(Call::Left(left), c.x, 0, false);
     }
     if ROOM < b {
-        return t.see(call, x, 0, false);
+        return t.see(Call::Left(left), c.x, 0, false);
     }
-    lent(t, w, call, x, &mut best[0..a], &mut count[0..b])
+    let best = &mut best[..a];
+    let count = &mut count[..b];
+    c.way.fill(best);
+    c.way.fill(count);
+    let got = ask(c.x, best, count);
+    compare_both(t, c, left, got, best, count, second)
 }
 
-// Both calls, with tables of a and of b rows.
-pub fn with_rooms(t: Tally, w: Way, x: &[u8], a: usize, b: usize) -> Tally {
-    let covers = one(t, w, calls::LEFT_COVERS, x, a, b);
-    one(covers, w, calls::LEFT_SEEDS, x, a, b)
+// Both calls.
+pub fn with_rooms(t: &mut Tally, c: Case, a: usize, b: usize) -> Result<(), Unwritten> {
+    one(t, c, Left::Covers, a, b, finder::left_covers, second_left::cover)?;
+    one(t, c, Left::Seeds, a, b, finder::left_seeds, second_left::seed)
 }

@@ -1,59 +1,55 @@
 // The four tables of a log.
-use crate::rows::{compare, least, part, total, written};
-use trial_base::calls;
+use crate::rows::{Span, compare, second_way, total};
+use refusals::Refusal;
+use trial_base::calls::{Call, Column};
+use trial_base::line::Unwritten;
 use trial_base::tally::Tally;
-use trial_base::way::{Way, fill};
-use words::Weighing;
+use trial_base::way::Case;
 
-fn write(column: u8, x: &[u8], table: &mut [u16]) -> u8 {
-    match column {
-        calls::BORDER => finder::border_table(x, table).number,
-        calls::PREFIX => finder::prefix_table(x, table).number,
-        _ => finder::cover_table(x, table).number,
-    }
-}
-
-fn asked(w: Way, column: u8, x: &[u8], table: &mut [u16]) -> u8 {
-    fill(w, table);
-    write(column, x, table)
-}
-
-// The border, prefix or cover table.
-pub fn plain(t: Tally, w: Way, column: u8, x: &[u8], table: &mut [u16]) -> Tally {
-    let got = asked(w, column, x, table);
-    let number = second_no::table(x.len(), table.len());
-    let seen = t.see(column, x, 0, got == number);
-    compare(seen, w, column, x, written(number, 0, x.len()), table)
-}
-
-fn asked_enhanced(w: Way, x: &[u8], best: &mut [u16], count: &mut [u16]) -> Weighing {
-    fill(w, best);
-    fill(w, count);
-    finder::enhanced_table(x, best, count)
+// The border, prefix or cover table, as `ask` writes it.
+pub fn plain<F: Fn(&[u8], &mut [u16]) -> Result<(), Refusal>>(
+    t: &mut Tally,
+    c: Case,
+    column: Column,
+    table: &mut [u16],
+    ask: F,
+) -> Result<(), Unwritten>
+    requires { F.IsAlwaysCallable ask }
+{
+    let call = Call::Table(column);
+    c.way.fill(table);
+    let got = ask(c.x, table);
+    let want = second_no::table(c.x.len(), table.len());
+    t.see(call, c.x, 0, got.map_err(u8::from) == want.map_err(u8::from))?;
+    let s = Span::written(want, 0, c.x.len());
+    compare(t, c, s, call, table, |x, i| second_way(column, x, i))
 }
 
 fn compare_enhanced(
-    t: Tally,
-    w: Way,
-    x: &[u8],
-    got: Weighing,
+    t: &mut Tally,
+    c: Case,
+    got: Result<u32, Refusal>,
     best: &[u16],
     count: &[u16],
-) -> Tally {
-    let number = second_no::table(x.len(), least(best.len(), count.len()));
-    let s = written(number, 0, x.len());
-    let t1 = t.see(calls::ENHANCED, x, 0, got.number == number);
-    let t2 = t1.see(
-        calls::ENHANCED,
-        x,
-        0,
-        got.total as usize == total(w, part(x, s)),
-    );
-    let t3 = compare(t2, w, calls::BEST, x, s, best);
-    compare(t3, w, calls::COUNT, x, s, count)
+) -> Result<(), Unwritten> {
+    let want = second_no::table(c.x.len(), best.len().min(count.len()));
+    let s = Span::written(want, 0, c.x.len());
+    let same = got.map(|_| ()).map_err(u8::from) == want.map_err(u8::from);
+    t.see(Call::Enhanced, c.x, 0, same)?;
+    let total = total(c.way, s.part(c.x));
+    t.see(Call::Enhanced, c.x, 0, got.unwrap_or(0) as usize == total)?;
+    compare(t, c, s, Call::Table(Column::Best), best, |x, i| second_way(Column::Best, x, i))?;
+    compare(t, c, s, Call::Table(Column::Count), count, |x, i| second_way(Column::Count, x, i))
 }
 
-pub fn enhanced(t: Tally, w: Way, x: &[u8], best: &mut [u16], count: &mut [u16]) -> Tally {
-    let got = asked_enhanced(w, x, best, count);
-    compare_enhanced(t, w, x, got, best, count)
+pub fn enhanced(
+    t: &mut Tally,
+    c: Case,
+    best: &mut [u16],
+    count: &mut [u16],
+) -> Result<(), Unwritten> {
+    c.way.fill(best);
+    c.way.fill(count);
+    let got = finder::enhanced_table(c.x, best, count);
+    compare_enhanced(t, c, got, best, count)
 }

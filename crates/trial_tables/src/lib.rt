@@ -5,49 +5,66 @@ pub mod columns;
 pub mod list;
 pub mod rows;
 
-use trial_base::calls;
+use refusals::Refusal;
+use trial_base::calls::{Call, Column};
+use trial_base::line::Unwritten;
 use trial_base::tally::Tally;
-use trial_base::way::Way;
+use trial_base::way::{Case, Way};
 
 // The most rows that can be lent. A case that needs more is not tried, and counts as a difference.
 const ROOM: usize = 4100;
 
-fn plain(t: Tally, w: Way, column: u8, x: &[u8], room: usize) -> Tally {
+fn lending<F: FnOnce(&mut Tally, &mut [u16]) -> Result<(), Unwritten>>(
+    t: &mut Tally,
+    call: Call,
+    x: &[u8],
+    room: usize,
+    compare: F,
+) -> Result<(), Unwritten>
+    requires { F.IsAlwaysCallable compare }
+{
     let mut table = [0u16; ROOM];
     if ROOM < room {
-        return t.see(column, x, 0, false);
+        return t.see(call, x, 0, false);
     }
-    columns::plain(t, w, column, x, &mut table[0..room])
+    compare(t, &mut table[..room])
 }
 
-fn covers(t: Tally, w: Way, x: &[u8], room: usize) -> Tally {
-    let mut table = [0u16; ROOM];
-    if ROOM < room {
-        return t.see(calls::COVER_LIST, x, 0, false);
-    }
-    list::covers_of(t, w, x, &mut table[0..room])
+fn plain<F: Fn(&[u8], &mut [u16]) -> Result<(), Refusal>>(
+    t: &mut Tally,
+    c: Case,
+    column: Column,
+    room: usize,
+    ask: F,
+) -> Result<(), Unwritten>
+    requires { F.IsAlwaysCallable ask }
+{
+    lending(t, Call::Table(column), c.x, room, |t, table| {
+        columns::plain(t, c, column, table, &ask)
+    })
+}
+
+fn covers(t: &mut Tally, c: Case, room: usize) -> Result<(), Unwritten> {
+    lending(t, Call::CoverList, c.x, room, |t, table| list::covers_of(t, c, table))
 }
 
 // The enhanced table, with tables of a and of b rows.
-pub fn enhanced(t: Tally, w: Way, x: &[u8], a: usize, b: usize) -> Tally {
-    let mut best = [0u16; ROOM];
-    let mut count = [0u16; ROOM];
-    if ROOM < a {
-        return t.see(calls::ENHANCED, x, 0, false);
-    }
-    if ROOM < b {
-        return t.see(calls::ENHANCED, x, 0, false);
-    }
-    columns::enhanced(t, w, x, &mut best[0..a], &mut count[0..b])
+pub fn enhanced(t: &mut Tally, c: Case, a: usize, b: usize) -> Result<(), Unwritten> {
+    lending(t, Call::Enhanced, c.x, a, |t, best| {
+        lending(t, Call::Enhanced, c.x, b, |t, count| columns::enhanced(t, c, best, count))
+    })
 }
 
 // Every call that writes a table, with tables of a rows, and of b rows where it writes a second one.
 // Border and prefix tables are compared at every row.
-pub fn with_rooms(t: Tally, w: Way, x: &[u8], a: usize, b: usize) -> Tally {
-    let every = Way::whole(w.was);
-    let t1 = plain(t, every, calls::BORDER, x, a);
-    let t2 = plain(t1, every, calls::PREFIX, x, a);
-    let t3 = plain(t2, w, calls::COVER, x, a);
-    let t4 = covers(t3, w, x, a);
-    enhanced(t4, w, x, a, b)
+pub fn with_rooms(t: &mut Tally, c: Case, a: usize, b: usize) -> Result<(), Unwritten> {
+    let every = Case {
+        way: Way::whole(c.way.was),
+        x: c.x,
+    };
+    plain(t, every, Column::Border, a, finder::border_table)?;
+    plain(t, every, Column::Prefix, a, finder::prefix_table)?;
+    plain(t, c, Column::Cover, a, finder::cover_table)?;
+    covers(t, c, a)?;
+    enhanced(t, c, a, b)
 }

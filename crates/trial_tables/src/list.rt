@@ -1,74 +1,71 @@
 // The list of covers.
-use crate::rows::{part, written};
-use trial_base::calls;
+use crate::rows::Span;
+use refusals::Refusal;
+use trial_base::calls::Call;
+use trial_base::line::Unwritten;
 use trial_base::tally::Tally;
-use trial_base::way::{Way, fill};
-use words::{CoverTest, Listed, wide};
+use trial_base::way::{Case, Way};
 
 // The cover test answers yes.
 pub fn accepts(x: &[u8], i: usize, q: usize) -> bool {
-    match finder::cover_test(x, i, q) {
-        CoverTest::Yes => true,
-        CoverTest::No => false,
-        CoverTest::Refused(_) => false,
-    }
+    finder::cover_test(x, i, q) == Ok(true)
 }
 
-// The first length above q that the cover test accepts; the greatest number if there is none.
-fn accepted_after(x: &[u8], q: usize) -> usize {
-    let mut p = q;
-    while p < x.len() {
-        p += 1;
-        if accepts(x, x.len(), p) {
-            return p;
-        }
-    }
-    usize::MAX
+// The first length above q that the cover test accepts.
+fn accepted_after(x: &[u8], q: usize) -> Option<usize> {
+    (q.saturating_add(1)..=x.len()).find(|p| accepts(x, x.len(), *p))
 }
 
 // The next of the list of covers: by the second way where every row is compared, else by the cover test.
-fn cover_after(w: Way, x: &[u8], q: usize) -> usize {
-    if w.every == 1 {
+fn cover_after(way: Way, x: &[u8], q: usize) -> Option<usize> {
+    if way.is_whole() {
         second::cover_after(x, x.len(), q)
     } else {
         accepted_after(x, q)
     }
 }
 
-// Row r of a list of so many covers, where the second way has q next.
-fn listed(w: Way, q: usize, used: usize, r: usize, value: u16) -> bool {
-    if q == usize::MAX {
-        return used <= r && value == w.before(r);
+// The row after r others of a list of so many covers, where the second way has this one next, or none.
+fn listed(way: Way, next: Option<usize>, used: usize, r: usize, entry: u16) -> bool {
+    match next {
+        Some(q) => r < used && usize::from(entry) == q,
+        None => used <= r && entry == way.before(r),
     }
-    r < used && wide(value) == q
 }
 
-// Of the log x the readings that the list is of: all, or none where the call is refused.
-fn compare_rows(t: Tally, w: Way, x: &[u8], of: &[u8], used: usize, table: &[u16]) -> Tally {
-    let mut seen = t;
-    let mut q = 0;
-    for r in 0..table.len() {
-        q = cover_after(w, of, q);
-        seen = seen.see(calls::COVER_LIST, x, r + 1, listed(w, q, used, r, table[r]));
+// `of` is the readings that the list is of: all of the log, or none where the call is refused.
+fn compare_rows(
+    t: &mut Tally,
+    c: Case,
+    of: &[u8],
+    used: usize,
+    table: &[u16],
+) -> Result<(), Unwritten> {
+    let mut next = Some(0);
+    for (r, entry) in table.iter().enumerate() {
+        next = next.and_then(|q| cover_after(c.way, of, q));
+        t.see(Call::CoverList, c.x, r + 1, listed(c.way, next, used, r, *entry))?;
     }
-    seen
+    Ok(())
 }
 
-fn asked(w: Way, x: &[u8], table: &mut [u16]) -> Listed {
-    fill(w, table);
-    finder::cover_list(x, table)
+fn compare_answer(
+    t: &mut Tally,
+    c: Case,
+    got: Result<u16, Refusal>,
+    table: &[u16],
+) -> Result<(), Unwritten> {
+    let want = second_no::table(c.x.len(), table.len());
+    let of = Span::written(want, 0, c.x.len()).part(c.x);
+    let used = got.map_or(0, usize::from);
+    let same = got.map(|_| ()).map_err(u8::from) == want.map_err(u8::from);
+    t.see(Call::CoverList, c.x, 0, same)?;
+    t.see(Call::CoverList, c.x, 0, used <= of.len())?;
+    compare_rows(t, c, of, used, table)
 }
 
-fn compare_answer(t: Tally, w: Way, x: &[u8], got: Listed, table: &[u16]) -> Tally {
-    let number = second_no::table(x.len(), table.len());
-    let of = part(x, written(number, 0, x.len()));
-    let used = wide(got.used);
-    let t1 = t.see(calls::COVER_LIST, x, 0, got.number == number);
-    let t2 = t1.see(calls::COVER_LIST, x, 0, used <= of.len());
-    compare_rows(t2, w, x, of, used, table)
-}
-
-pub fn covers_of(t: Tally, w: Way, x: &[u8], table: &mut [u16]) -> Tally {
-    let got = asked(w, x, table);
-    compare_answer(t, w, x, got, table)
+pub fn covers_of(t: &mut Tally, c: Case, table: &mut [u16]) -> Result<(), Unwritten> {
+    c.way.fill(table);
+    let got = finder::cover_list(c.x, table);
+    compare_answer(t, c, got, table)
 }

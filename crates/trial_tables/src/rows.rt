@@ -1,102 +1,87 @@
 // The rows of a lent table after a call: those written hold what the second way gives, all others what stood there before.
-use trial_base::calls;
+use second_no::No;
+use trial_base::calls::{Call, Column};
+use trial_base::line::Unwritten;
 use trial_base::tally::Tally;
-use trial_base::way::Way;
-use words::wide;
+use trial_base::way::{Case, Way};
 
 // The rows after the first `from`, up to `to`: those that a call writes. They belong to the same readings of the log.
-#[derive(Clone, Copy)]
+#[derive(Clone, Copy, PartialEq, Eq, Debug)]
 pub struct Span {
     pub from: usize,
     pub to: usize,
 }
 
-// A refused call writes none.
-pub fn written(number: u8, from: usize, to: usize) -> Span {
-    if number == 0 {
-        Span { from, to }
+impl Span {
+    // A refused call writes none.
+    pub fn written(answer: Result<(), No>, from: usize, to: usize) -> Span {
+        match answer {
+            Ok(()) => Span { from, to },
+            Err(_) => Span { from: 0, to: 0 },
+        }
+    }
+
+    // The readings that the rows belong to: a log of its own.
+    pub fn part(self, x: &[u8]) -> &[u8] {
+        x.get(self.from..self.to).unwrap_or(&[])
+    }
+}
+
+pub fn second_way(column: Column, x: &[u8], i: usize) -> usize {
+    match column {
+        Column::Border => second::border(x, i),
+        Column::Prefix => second::prefix(x, i),
+        Column::Cover => second::cover(x, i),
+        Column::Best => second::enhanced(x, i).best,
+        Column::Count => second::enhanced(x, i).count,
+    }
+}
+
+// What the row after r others is held to; none where it is not compared.
+fn wanted<F: Fn(&[u8], usize) -> usize>(c: Case, s: Span, r: usize, second: F) -> Option<usize>
+    requires { F.IsAlwaysCallable second }
+{
+    if r < s.from || s.to <= r {
+        return Some(usize::from(c.way.before(r)));
+    }
+    let part = s.part(c.x);
+    let i = r - s.from + 1;
+    if c.way.picks(i, part.len()) {
+        Some(second(part, i))
     } else {
-        Span { from: 0, to: 0 }
+        None
     }
 }
 
-// The readings that the rows belong to: a log of its own.
-pub fn part(x: &[u8], s: Span) -> &[u8] {
-    let from = s.from;
-    let to = s.to;
-    if x.len() < to {
-        return &x[0..0];
+pub fn compare<F: Fn(&[u8], usize) -> usize>(
+    t: &mut Tally,
+    c: Case,
+    s: Span,
+    call: Call,
+    table: &[u16],
+    second: F,
+) -> Result<(), Unwritten>
+    requires { F.IsAlwaysCallable second }
+{
+    for (r, entry) in table.iter().enumerate() {
+        if let Some(want) = wanted(c, s, r, &second) {
+            t.see(call, c.x, r + 1, usize::from(*entry) == want)?;
+        }
     }
-    if to < from {
-        return &x[0..0];
-    }
-    &x[from..to]
-}
-
-// A column of a log or of a window.
-fn column(call: u8, x: &[u8], i: usize) -> usize {
-    match call % 10 {
-        calls::BORDER => second::border(x, i),
-        calls::PREFIX => second::prefix(x, i),
-        calls::COVER => second::cover(x, i),
-        calls::BEST => second::best(x, i),
-        _ => second::count(x, i),
-    }
-}
-
-fn second_way(call: u8, x: &[u8], i: usize) -> usize {
-    match call {
-        calls::LEFT_COVER => second_left::cover(x, i).best,
-        calls::LEFT_COVER_COUNT => second_left::cover(x, i).count,
-        calls::LEFT_SEED => second_left::seed(x, i).best,
-        calls::LEFT_SEED_COUNT => second_left::seed(x, i).count,
-        _ => column(call, x, i),
-    }
-}
-
-fn compare_row(t: Tally, w: Way, call: u8, x: &[u8], s: Span, r: usize, value: u16) -> Tally {
-    let row = std::num::wrapping_add_usize(r, 1);
-    if row <= s.from {
-        return t.see(call, x, row, value == w.before(r));
-    }
-    if s.to < row {
-        return t.see(call, x, row, value == w.before(r));
-    }
-    let i = std::num::wrapping_sub_usize(row, s.from);
-    let p = part(x, s);
-    if w.picks(i, p.len()) {
-        return t.see(call, x, row, wide(value) == second_way(call, p, i));
-    }
-    t
-}
-
-pub fn compare(t: Tally, w: Way, call: u8, x: &[u8], s: Span, table: &[u16]) -> Tally {
-    let mut seen = t;
-    for r in 0..table.len() {
-        seen = compare_row(seen, w, call, x, s, r, table[r]);
-    }
-    seen
+    Ok(())
 }
 
 fn summed(x: &[u8]) -> usize {
-    let mut sum = 0;
-    let mut i = 0;
-    while i < x.len() {
-        i += 1;
-        sum = std::num::wrapping_add_usize(sum, wide(finder::weighed_list(x, i).used));
-    }
-    sum
+    (1..=x.len()).fold(0, |sum: usize, i| {
+        sum.wrapping_add(finder::weighed_list(x, i).map_or(0, |w| usize::from(w.used)))
+    })
 }
 
 // The weighed total of a log: by the second way where every row is compared, else the sum over the weighed lists.
-pub fn total(w: Way, x: &[u8]) -> usize {
-    if w.every == 1 {
+pub fn total(way: Way, x: &[u8]) -> usize {
+    if way.is_whole() {
         second::total(x)
     } else {
         summed(x)
     }
-}
-
-pub fn least(a: usize, b: usize) -> usize {
-    if a < b { a } else { b }
 }

@@ -3,17 +3,17 @@
 
 ghost use Rattle.std.specs.Prelude.{◌≤◌};
 
-use trial_base::calls;
+use refusals::Refusal;
+use trial_base::calls::{Call, Column};
+use trial_base::line::Unwritten;
 use trial_base::tally::Tally;
-use trial_base::way::{Way, fill};
-use trial_tables::rows::{Span, compare, least, part, total, written};
-use words::Weighing;
+use trial_base::way::Case;
+use trial_tables::rows::{Span, compare, second_way, total};
 
 const ROOM: usize = 4100;
 
 fn asked(
-    w: Way,
-    x: &[u8],
+    c: Case,
     a: usize,
     m: usize,
     border: &mut [u16],
@@ -21,138 +21,69 @@ fn asked(
     cover: &mut [u16],
     best: &mut [u16],
     count: &mut [u16],
-) -> Weighing {
-    fill(w, border);
-    fill(w, prefix);
-    fill(w, cover);
-    fill(w, best);
-    fill(w, count);
-    finder::window(x, a, m, border, prefix, cover, best, count)
-}
-
-fn compare_all(
-    t: Tally,
-    w: Way,
-    x: &[u8],
-    s: Span,
-    border: &[u16],
-    prefix: &[u16],
-    cover: &[u16],
-    best: &[u16],
-    count: &[u16],
-) -> Tally {
-    let t1 = compare(t, w, calls::WINDOW + calls::BORDER, x, s, border);
-    let t2 = compare(t1, w, calls::WINDOW + calls::PREFIX, x, s, prefix);
-    let t3 = compare(t2, w, calls::WINDOW + calls::COVER, x, s, cover);
-    let t4 = compare(t3, w, calls::WINDOW + calls::BEST, x, s, best);
-    compare(t4, w, calls::WINDOW + calls::COUNT, x, s, count)
+) -> Result<u32, Refusal> {
+    c.way.fill(border);
+    c.way.fill(prefix);
+    c.way.fill(cover);
+    c.way.fill(best);
+    c.way.fill(count);
+    finder::window(c.x, a, m, border, prefix, cover, best, count)
 }
 
 fn compare_answer(
-    t: Tally,
-    w: Way,
-    x: &[u8],
+    t: &mut Tally,
+    c: Case,
     a: usize,
     m: usize,
-    got: Weighing,
-    border: &[u16],
-    prefix: &[u16],
-    cover: &[u16],
-    best: &[u16],
-    count: &[u16],
-) -> Tally {
-    let room = least(
-        border.len(),
-        least(
-            prefix.len(),
-            least(cover.len(), least(best.len(), count.len())),
-        ),
-    );
-    let number = second_no::window(x.len(), a, m, room);
-    let s = written(number, a, std::num::wrapping_add_usize(a, m));
-    let t1 = t.see(calls::WINDOW, x, 0, got.number == number);
-    let t2 = t1.see(
-        calls::WINDOW,
-        x,
-        0,
-        got.total as usize == total(w, part(x, s)),
-    );
-    compare_all(t2, w, x, s, border, prefix, cover, best, count)
+    got: Result<u32, Refusal>,
+    tables: [&[u16]; 5],
+) -> Result<(), Unwritten> {
+    let room = tables.iter().map(|table| table.len()).min().unwrap_or(0);
+    let want = second_no::window(c.x.len(), a, m, room);
+    let s = Span::written(want, a, a.wrapping_add(m));
+    let same = got.map(|_| ()).map_err(u8::from) == want.map_err(u8::from);
+    t.see(Call::Window, c.x, 0, same)?;
+    let total = total(c.way, s.part(c.x));
+    t.see(Call::Window, c.x, 0, got.unwrap_or(0) as usize == total)?;
+    for (column, table) in Column::ALL.into_iter().zip(tables) {
+        compare(t, c, s, Call::WindowTable(column), table, |x, i| second_way(column, x, i))?;
+    }
+    Ok(())
 }
 
-fn lent(
-    t: Tally,
-    w: Way,
-    x: &[u8],
-    a: usize,
-    m: usize,
-    border: &mut [u16],
-    prefix: &mut [u16],
-    cover: &mut [u16],
-    best: &mut [u16],
-    count: &mut [u16],
-) -> Tally {
-    let got = asked(w, x, a, m, border, prefix, cover, best, count);
-    compare_answer(t, w, x, a, m, got, border, prefix, cover, best, count)
-}
-
-// How many rows table k of the five has: exactly those that the window needs where `which` is 6, else more than enough, but for table `which`,
+// How many rows the k-th of the five tables has: exactly those that the window needs where `which` is 6, else more than enough, but for table `which`,
 // which is a row too short.
 fn rows(which: usize, k: usize, n: usize, end: usize) -> usize
     ensures { result ≤ 4100 }
 {
-    if which == 6 {
-        return at_most(end);
-    }
-    if which == k {
-        return at_most(one_less(end));
-    }
-    at_most(std::num::wrapping_add_usize(n, 2))
-}
-
-fn one_less(n: usize) -> usize {
-    if n == 0 { 0 } else { n - 1 }
-}
-
-fn at_most(rows: usize) -> usize
-    ensures { result ≤ 4100 }
-{
-    if ROOM < rows { ROOM } else { rows }
+    let rows = if which == 6 {
+        end
+    } else if which == k {
+        end.saturating_sub(1)
+    } else {
+        n.wrapping_add(2)
+    };
+    rows.min(ROOM)
 }
 
 // A window of m readings after the first a, with tables as `which` says.
-pub fn with_rooms(t: Tally, w: Way, x: &[u8], a: usize, m: usize, which: usize) -> Tally {
-    let mut border = [0u16; ROOM];
-    let mut prefix = [0u16; ROOM];
-    let mut cover = [0u16; ROOM];
-    let mut best = [0u16; ROOM];
-    let mut count = [0u16; ROOM];
-    let n = x.len();
-    let end = std::num::wrapping_add_usize(a, m);
-    let b = rows(which, 1, n, end);
-    let p = rows(which, 2, n, end);
-    let c = rows(which, 3, n, end);
-    let e = rows(which, 4, n, end);
-    let k = rows(which, 5, n, end);
-    lent(
-        t,
-        w,
-        x,
-        a,
-        m,
-        &mut border[0..b],
-        &mut prefix[0..p],
-        &mut cover[0..c],
-        &mut best[0..e],
-        &mut count[0..k],
-    )
+fn with_rooms(t: &mut Tally, c: Case, a: usize, m: usize, which: usize) -> Result<(), Unwritten> {
+    let [mut border, mut prefix, mut cover, mut best, mut count] = [[0u16; ROOM]; 5];
+    let n = c.x.len();
+    let end = a.wrapping_add(m);
+    let border = &mut border[..rows(which, 1, n, end)];
+    let prefix = &mut prefix[..rows(which, 2, n, end)];
+    let cover = &mut cover[..rows(which, 3, n, end)];
+    let best = &mut best[..rows(which, 4, n, end)];
+    let count = &mut count[..rows(which, 5, n, end)];
+    let got = asked(c, a, m, border, prefix, cover, best, count);
+    compare_answer(t, c, a, m, got, [border, prefix, cover, best, count])
 }
 
 // The window with tables of each size.
-pub fn at(t: Tally, w: Way, x: &[u8], a: usize, m: usize) -> Tally {
-    let mut seen = t;
-    for which in 0..7usize {
-        seen = with_rooms(seen, w, x, a, m, which);
+pub fn at(t: &mut Tally, c: Case, a: usize, m: usize) -> Result<(), Unwritten> {
+    for which in 0..7 {
+        with_rooms(t, c, a, m, which)?;
     }
-    seen
+    Ok(())
 }

@@ -1,9 +1,0 @@
--- `trial_tables::rows::compare` is safe and ends. Assumes nothing.
-use Rattle.std.proofs.Common.{◌≡◌, ◌-◌, length}
-use Rattle.trial_tables.proofs.rows.compare.Given as goal
-
-abbrev pub invariant-loop-r : goal.invariant-loop-r
-invariant-loop-r l = l.r-end ≡ length l.table
-
-abbrev pub decreases-loop-r : goal.decreases-loop-r
-decreases-loop-r l = l.r-end - l.r

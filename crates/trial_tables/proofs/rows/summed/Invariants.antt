@@ -1,9 +1,0 @@
--- `trial_tables::rows::summed` is safe and ends. Assumes nothing.
-use Rattle.std.proofs.Common.{◌-◌, length}
-use Rattle.trial_tables.proofs.rows.summed.Given as goal
-
-abbrev pub invariant-loop-i : goal.invariant-loop-i
-invariant-loop-i l = Unit {0}
-
-abbrev pub decreases-loop-i : goal.decreases-loop-i
-decreases-loop-i l = length l.x - l.i
