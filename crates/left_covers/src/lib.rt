@@ -1,12 +1,33 @@
 // Floor 2: the left covers of a log, as the best so far of its enhanced table.
 #![tactic(auto)]
 
-ghost use Rattle.std.specs.Prelude.{◌≡◌, length};
+ghost use Rattle.std.specs.Prelude.{◌≡◌, ◌<◌, length, get_or, set};
 ghost use Rattle.words.specs.Tables.{best_row, count_row, written};
 ghost use Rattle.words.proofs.Tables.{Room, Holds};
+ghost use Rattle.repeats.specs.Better.{Better};
 ghost use Rattle.repeats.specs.Repeats.{left_cover_row, left_count_row};
 
 use repeats::Found;
+
+// The row's own pattern, or the best of the rows before it: the greater stands in the row, and is returned. A row that is no less stands as it is.
+fn settle(best: &mut [u16], count: &mut [u16], r: usize, left: Found) -> Found
+    requires { (r < length best.old) × (r < length count.old) × (left.len < 65536) × (left.count < 65536) }
+    ensures choice { Better (record { len = get_or best.old r 0; count = get_or count.old r 0 }) left result }
+    ensures best { best.new ≡ set best.old r result.len }
+    ensures count { count.new ≡ set count.old r result.count }
+{
+    let row = Found {
+        len: usize::from(best[r]),
+        count: usize::from(count[r]),
+    };
+    if row < left {
+        best[r] = left.len as u16;
+        count[r] = left.count as u16;
+        left
+    } else {
+        row
+    }
+}
 
 // Each row of an enhanced table becomes the best of the rows up to it.
 fn run(x: &[u8], best: &mut [u16], count: &mut [u16])
@@ -16,13 +37,7 @@ fn run(x: &[u8], best: &mut [u16], count: &mut [u16])
 {
     let mut left = Found::default();
     for r in 0..x.len() {
-        let row = Found {
-            len: usize::from(best[r]),
-            count: usize::from(count[r]),
-        };
-        left = row.max(left);
-        best[r] = left.len as u16;
-        count[r] = left.count as u16;
+        left = settle(best, count, r, left);
     }
 }
 

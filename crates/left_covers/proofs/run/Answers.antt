@@ -1,18 +1,15 @@
 -- `left_covers::run` meets its contract. The loop's invariant: both tables have their first r rows written, and `left` is the left cover of the first r
 -- readings. Assumes nothing.
-use Rattle.words.proofs.Tables.{rows_none, rows_length, rows_done}
+use Rattle.words.proofs.Tables.{rows_none, rows_length, rows_inside, rows_done}
 use Rattle.repeats.specs.Repeats.{left_cover_row, left_count_row}
-use Rattle.left_covers.proofs.Steps.{left_start, len_fits, count_fits, next_left, cover_more, count_more}
+use Rattle.left_covers.proofs.Steps.{left_start, len_small, count_small, next_left, cover_more, count_more}
 use Rattle.left_covers.proofs.run.Goals as goal
 
 pub loop-r-init : goal.loop-r-init
 loop-r-init c = (search rows_none, search rows_none, search left_start)
 
-pub overflow_cast-best : goal.overflow_cast-best
-overflow_cast-best c = search (len_fits, next_left)
-
-pub overflow_cast-count : goal.overflow_cast-count
-overflow_cast-count c = search (count_fits, next_left)
+pub settle-left-requires : goal.settle-left-requires
+settle-left-requires c = (search rows_inside, search rows_inside, search len_small, search count_small)
 
 pub loop-r-preserved : goal.loop-r-preserved
 loop-r-preserved c = (search (cover_more, next_left), search (count_more, next_left), search next_left)
