@@ -3,7 +3,7 @@
 
 ghost use Rattle.std.specs.Prelude.{IfOk};
 ghost use Rattle.ppm_text.specs.Texts.{Made};
-ghost use Rattle.ppm_text.specs.States.{Room, After};
+ghost use Rattle.ppm_text.specs.States.{After};
 
 use ppm_text::{Fault, State};
 use std::error::Error;
@@ -42,8 +42,7 @@ impl fmt::Display for Wrong {
 impl Error for Wrong {}
 
 // Reads to the end. A proved loop has to end, and nothing says that an input does: so the loop counts its turns, to a number that no run reaches.
-fn read_text(from: &mut impl Read, file: &mut [u8]) -> Result<State, Wrong>
-    requires { Room 0 file.old }
+fn read_text(from: &mut impl Read, file: &mut [u8; logfile::LONGEST_FILE]) -> Result<State, Wrong>
     ensures { IfOk result (λ s. After s file.new) }
 {
     let mut buf = [0u8; PIECE];

@@ -11,10 +11,11 @@ use Rattle.ppm_line.specs.declared.Line.TheVariants.{Blank}
 use Rattle.ppm_text.specs.declared.Fault.{Fault}
 use Rattle.ppm_text.specs.declared.Fault.TheVariants as fault
 use Rattle.ppm_text.specs.declared.State.{State}
+use Rattle.words.specs.Refusals.{longest}
 use Rattle.ppm_line.specs.Lines.{says, says_after}
 use Rattle.ppm_text.specs.Texts.{symbols, no_reading, whole, given, from, file_of}
 use Rattle.ppm_text.specs.States.{heard, Room, line_gives, ahead, stopped, gives, ended, stop_at, headed, AtFront, EndsLine, EndsText}
-use Rattle.ppm_text.proofs.Readings.{length_heard}
+use Rattle.ppm_text.proofs.Readings.{length_heard, room_of}
 
 -- the header
 pub heard_headed : (n m : ℕ) (file : List ℕ) → heard n (headed m file) ≡ heard n file
@@ -61,8 +62,8 @@ some_whole n file m z =
     let l : length (heard n file) ≡ n = length_heard n file m.long ∙ omega arith in
     rw (l, ne_eqb n 0 z)
 
-pub wrong_before : (s : State) (file : List ℕ) (f : Fault) → Room s.readings file → s.fault ≡ Some f → EndsText s file s file
-wrong_before s file f m p = record { room = m; meaning = ended_gives s file f p; made = λ h. cc }
+pub wrong_before : (s : State) (file : List ℕ) (f : Fault) → length file ≡ 3 + longest → s.fault ≡ Some f → EndsText s file s file
+wrong_before s file f l p = record { room = room_of s file l; meaning = ended_gives s file f p; made = λ h. cc }
 
 module _ (s : State) (file : List ℕ) (d : AtFront s file) (p : s.fault ≡ None) where
   all_heard : whole (heard s.readings file) ≡ gives s file []

@@ -18,7 +18,8 @@ use Rattle.words.proofs.Search.{any_none}
 use Rattle.ppm_text.specs.declared.State.{State}
 use Rattle.ppm_line.specs.Lines.{Said, symbol_of, says, says_after}
 use Rattle.ppm_text.specs.Texts.{Outcome, symbols, no_reading, lines, next_number, whole, given, from, outcome, file_of, Made}
-use Rattle.ppm_text.specs.States.{heard, Room, line_gives, ahead, stopped, gives, ended, start_state, Takes, EndsText, After}
+use Rattle.ppm_text.proofs.Readings.{room_of}
+use Rattle.ppm_text.specs.States.{heard, line_gives, ahead, stopped, gives, ended, start_state, Takes, EndsText, After}
 
 -- Pieces
 
@@ -27,9 +28,9 @@ unfolding gives stopped ahead line_gives heard says_after says given from
 start_gives file [] = refl
 start_gives file (x ∷ xs) = refl
 
-pub at_start : (s : State) (file : List ℕ) → s ≡ start_state → Room 0 file → After s file
+pub at_start : (s : State) (file : List ℕ) → s ≡ start_state → length file ≡ 3 + longest → After s file
 unfolding outcome
-at_start s file e m = rw e record { text = []; room = m; meaning = λ t. start_gives file (lines t) }
+at_start s file e l = rw e record { text = []; room = room_of start_state file l; meaning = λ t. start_gives file (lines t) }
 
 pub one_more_piece : (piece : List ℕ) (s : State) (file : List ℕ) (r : State) (file' : List ℕ) → After s file → Takes piece s file r file' → After r file'
 one_more_piece piece s file r file' d e = record {

@@ -17,7 +17,7 @@ use Rattle.ppm_text.specs.declared.Fault.TheVariants as fault
 use Rattle.ppm_text.specs.declared.State.{State}
 use Rattle.ppm_line.specs.Lines.{Said, symbol_of, says, says_after}
 use Rattle.ppm_text.specs.Texts.{wrong, line_end, joined, lines, next_number, fault_of, given, from}
-use Rattle.ppm_text.specs.States.{heard, Room, line_gives, ahead, fault_at, stopped, gives, stop_at, line_after, AtFront, EndsLine, Takes}
+use Rattle.ppm_text.specs.States.{heard, Room, line_gives, ahead, fault_at, stopped, gives, stop_at, with_line, line_after, AtFront, EndsLine, Takes}
 
 -- the symbols heard, with one more
 module _ (n : ℕ) (file : List ℕ) (l : length file ≡ 3 + longest) where
@@ -30,18 +30,21 @@ module _ (n : ℕ) (file : List ℕ) (l : length file ≡ 3 + longest) where
   heard_more v h = rw (drop-set-add, add-one) (take-suc-set (drop 3 file) n v (simp length-drop (omega arith)))
 
 -- a new line stands at its front
-pub blank_ahead : (s : State) (n : ℕ) (file : List ℕ) (xs : List (List ℕ)) → gives (line_after s n) file xs ≡ from (next_number s.number) (heard n file) xs
+pub blank_ahead : (s : State) (n : ℕ) (h : n ≤ longest) (file : List ℕ) (xs : List (List ℕ)) → gives (line_after s n h) file xs ≡ from (next_number s.number) (heard n file) xs
 unfolding gives stopped ahead line_gives says_after says given from
-blank_ahead s n file [] = refl
-blank_ahead s n file (x ∷ xs) = refl
+blank_ahead s n h file [] = refl
+blank_ahead s n h file (x ∷ xs) = refl
 
 -- the states that the code makes are at the front of a line, or stopped
-module _ (s r : State) (file : List ℕ) where
-  new_front : (n : ℕ) → Room n file → r ≡ line_after s n → AtFront r file
-  new_front n m q = rw q record { room = m; front = λ h. refl }
+pub room_of : (s : State) (file : List ℕ) → length file ≡ 3 + longest → Room s.readings file
+room_of s file l = record { few = s.few; long = l }
 
-  no_more : (f : Fault) → Room s.readings file → r ≡ stop_at s f → AtFront r file
-  no_more f m q = rw q record { room = m; front = λ h. cc }
+module _ (s r : State) (file : List ℕ) (l : length file ≡ 3 + longest) where
+  new_front : (n : ℕ) (h : n ≤ longest) → r ≡ line_after s n h → AtFront r file
+  new_front n h q = rw q record { room = record { few = h; long = l }; front = λ e. refl }
+
+  no_more : (f : Fault) → r ≡ stop_at s f → AtFront r file
+  no_more f q = rw q record { room = room_of s file l; front = λ h. cc }
 
 -- a fault of a line is told with the line's number
 line_fault_at : (f : LineFault) (k : ℕ) → fault_at (fault_of f) k ≡ wrong (fault_of f) k
@@ -49,39 +52,36 @@ line_fault_at line_fault.NoNumber k = refl
 line_fault_at line_fault.LongNumber k = refl
 
 -- a line ends
-module _ (s : State) (file : List ℕ) (w : Said) (r : State) (m : Room s.readings file) where
-  pub nothing_said : w ≡ Ok None → r ≡ line_after s s.readings → EndsLine s file w r file
+module _ (s : State) (file : List ℕ) (w : Said) (r : State) (l : length file ≡ 3 + longest) where
+  pub nothing_said : (h : s.readings ≤ longest) → w ≡ Ok None → r ≡ line_after s s.readings h → EndsLine s file w r file
   unfolding line_gives given
-  nothing_said e q = record {
-    after = new_front s r file s.readings m q;
-    meaning = λ xs. rw (q, e) (blank_ahead s s.readings file xs);
+  nothing_said h e q = record {
+    after = new_front s r file l s.readings h q;
+    meaning = λ xs. rw (q, e) (blank_ahead s s.readings h file xs);
   }
 
   pub fault_said : (f : LineFault) (g : Fault) → w ≡ Err f → g ≡ fault_of f → r ≡ stop_at s g → EndsLine s file w r file
   unfolding line_gives given gives stopped
-  fault_said f g e h q = record { after = no_more s r file g m q; meaning = λ xs. rw (q, e, h) (line_fault_at f s.number) }
+  fault_said f g e h q = record { after = no_more s r file l g q; meaning = λ xs. rw (q, e, h) (line_fault_at f s.number) }
 
-module _ (s : State) (file : List ℕ) (ppm : ℕ) (r : State) (m : Room s.readings file) where
-  pub reading_said : (v : ℕ) → s.readings < longest → v ≡ symbol_of ppm → r ≡ line_after s (s.readings + 1) → EndsLine s file (Ok (Some ppm)) r (set file (3 + s.readings) v)
+module _ (s : State) (file : List ℕ) (ppm : ℕ) (r : State) (l : length file ≡ 3 + longest) where
+  pub reading_said : (v : ℕ) (h' : s.readings + 1 ≤ longest) → s.readings < longest → v ≡ symbol_of ppm → r ≡ line_after s (s.readings + 1) h' → EndsLine s file (Ok (Some ppm)) r (set file (3 + s.readings) v)
   unfolding line_gives given
-  reading_said v h e q = record {
-    after = new_front s r (set file (3 + s.readings) v) (s.readings + 1) record { few = omega arith; long = length-set file (3 + s.readings) v ∙ m.long } q;
+  reading_said v h' h e q = record {
+    after = new_front s r (set file (3 + s.readings) v) (length-set file (3 + s.readings) v ∙ l) (s.readings + 1) h' q;
     meaning = λ xs.
-        rw (q, length_heard s.readings file m.long, lt-ltb (min s.readings longest) longest (omega arith))
-        (blank_ahead s (s.readings + 1) (set file (3 + s.readings) v) xs ∙ rw (heard_more s.readings file m.long v h, e));
+        rw (q, length_heard s.readings file l, lt-ltb (min s.readings longest) longest (omega arith))
+        (blank_ahead s (s.readings + 1) h' (set file (3 + s.readings) v) xs ∙ rw (heard_more s.readings file l v h, e));
   }
 
   pub too_many_said : longest ≤ s.readings → r ≡ stop_at s fault.Many → EndsLine s file (Ok (Some ppm)) r file
   unfolding line_gives given gives stopped
   too_many_said h q = record {
-    after = no_more s r file fault.Many m q;
-    meaning = λ xs. rw (q, length_heard s.readings file m.long, le-ltb (min s.readings longest) longest (omega arith));
+    after = no_more s r file l fault.Many q;
+    meaning = λ xs. rw (q, length_heard s.readings file l, le-ltb (min s.readings longest) longest (omega arith));
   }
 
 -- one byte more
-abbrev with_line : State → Line → State
-with_line s l = record { line = l; number = s.number; readings = s.readings; fault = s.fault }
-
 joined_ahead : (s : State) (file : List ℕ) (b : ℕ) (l : Line) → ((t : List ℕ) → says_after l t ≡ says_after s.line (b ∷ t))
     → (xs : List (List ℕ)) → ahead (with_line s l) file xs ≡ ahead s file (joined b xs)
 unfolding ahead joined line_gives
@@ -89,9 +89,9 @@ joined_ahead s file b l m [] = rw (m [])
 joined_ahead s file b l m (x ∷ xs) = rw (m x)
 
 module _ (s : State) (file : List ℕ) (b : ℕ) where
-  pub byte_after_fault : (f : Fault) → s.fault ≡ Some f → Room s.readings file → Takes (b ∷ []) s file s file
+  pub byte_after_fault : (f : Fault) → s.fault ≡ Some f → length file ≡ 3 + longest → Takes (b ∷ []) s file s file
   unfolding gives stopped
-  byte_after_fault f p m = record { room = m; meaning = λ t. rw p }
+  byte_after_fault f p l = record { room = room_of s file l; meaning = λ t. rw p }
 
   ended_line : s.fault ≡ None → (xs : List (List ℕ)) → line_gives s file (says_after s.line []) xs ≡ gives s file ([] ∷ xs)
   unfolding gives stopped ahead
@@ -101,7 +101,7 @@ module _ (s : State) (file : List ℕ) (b : ℕ) where
   unfolding lines
   line_end_lem r file' p e d = record { room = d.after.room; meaning = λ t. rw (eq-eqb b line_end e) (d.meaning (lines t) ∙ ended_line p (lines t)) }
 
-pub byte_inside : (s : State) (file : List ℕ) (b : ℕ) (l : Line) → Room s.readings file → (b ≡ line_end → ⊥)
-    → ((t : List ℕ) → says_after l t ≡ says_after s.line (b ∷ t)) → Takes (b ∷ []) s file (with_line s l) file
+pub byte_inside : (s : State) (file : List ℕ) (b : ℕ) (l : Line) (r : State) → length file ≡ 3 + longest → (b ≡ line_end → ⊥)
+    → ((t : List ℕ) → says_after l t ≡ says_after s.line (b ∷ t)) → r ≡ with_line s l → Takes (b ∷ []) s file r file
 unfolding lines gives
-byte_inside s file b l m e d = record { room = m; meaning = λ t. rw (ne_eqb b line_end e, joined_ahead s file b l d (lines t)) }
+byte_inside s file b l r m e d q = rw q record { room = room_of s file m; meaning = λ t. rw (ne_eqb b line_end e, joined_ahead s file b l d (lines t)) }

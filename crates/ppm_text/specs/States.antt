@@ -1,6 +1,8 @@
 -- What the contracts say of a text that is being read: its state, and the file that takes its symbols. Assumes nothing.
-use Rattle.std.specs.Prelude.{◌≡◌, List, [], ◌∷◌, ◌++◌, ℕ, ◌+◌, ◌/◌, ◌%◌, ◌≤◌, length, take, drop, set, Option, Some, None}
+use Rattle.std.specs.Prelude.{◌≡◌, List, [], ◌∷◌, ◌++◌, ℕ, ◌+◌, ◌/◌, ◌%◌, ◌≤◌, length, take, drop, set, Option, Some, None, refl}
+use borrow.Author.Tests.{leb-true}
 use Rattle.words.specs.Refusals.{longest}
+use Rattle.ppm_line.specs.declared.Line.{Line}
 use Rattle.ppm_line.specs.declared.Line.TheVariants.{Blank}
 use Rattle.ppm_line.specs.Lines.{Said, says_after}
 use Rattle.ppm_text.specs.declared.Fault.{Fault}
@@ -47,14 +49,20 @@ unfoldable pub ended : State → List ℕ → Outcome
 ended s file = stopped s.fault s.number (symbols (heard s.readings file))
 
 -- The states and the file that the code makes
+pub none_yet : 0 ≤ longest
+none_yet = leb-true 0 longest refl
+
 abbrev pub start_state : State
-start_state = record { line = Blank; number = 1; readings = 0; fault = None }
+start_state = record { line = Blank; number = 1; readings = 0; fault = None; few = none_yet }
 
 abbrev pub stop_at : State → Fault → State
-stop_at s f = record { line = s.line; number = s.number; readings = s.readings; fault = Some f }
+stop_at s f = record { line = s.line; number = s.number; readings = s.readings; fault = Some f; few = s.few }
 
-abbrev pub line_after : State → ℕ → State
-line_after s n = record { line = Blank; number = next_number s.number; readings = n; fault = None }
+abbrev pub with_line : State → Line → State
+with_line s l = record { line = l; number = s.number; readings = s.readings; fault = s.fault; few = s.few }
+
+abbrev pub line_after : State → (n : ℕ) → n ≤ longest → State
+line_after s n h = record { line = Blank; number = next_number s.number; readings = n; fault = None; few = h }
 
 abbrev pub headed : ℕ → List ℕ → List ℕ
 headed n file = set (set (set file 0 1) 1 (n / 256)) 2 (n % 256)

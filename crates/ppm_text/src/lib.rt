@@ -1,13 +1,16 @@
 // Floor 2: a text of readings, taken byte by byte, and the plant's file that is made of it.
 #![tactic(auto)]
 
-ghost use Rattle.std.specs.Prelude.{◌≡◌, [], ◌∷◌, Ok, Some};
+ghost use Rattle.std.specs.Prelude.{◌≡◌, ◌≤◌, [], ◌∷◌, Ok, Some};
+ghost use Rattle.words.specs.Refusals.{longest};
 ghost use Rattle.ppm_line.specs.Lines.{says_after};
 ghost use Rattle.ppm_text.specs.Texts.{fault_of};
-ghost use Rattle.ppm_text.specs.States.{Room, start_state, stop_at, line_after, EndsLine, Takes, AtFront, EndsText, headed};
 
 use ppm_line::{Line, LineFault};
 use std::fmt;
+
+// The room for a file: its header and the longest log.
+pub const ROOM: usize = 3 + words::LONGEST;
 
 // What is wrong with a text.
 #[derive(Clone, Copy, Debug, PartialEq, Eq)]
@@ -47,20 +50,12 @@ pub struct State {
     pub number: u64,
     pub readings: usize,
     pub fault: Option<Fault>,
-}
-
-// The version and the number of readings, in front of them.
-fn put_header(n: usize, file: &mut [u8])
-    requires { Room n file.old }
-    ensures { file.new ≡ headed n file.old }
-{
-    let [high, low] = (n as u16).to_be_bytes();
-    file[0] = 1;
-    file[1] = high;
-    file[2] = low;
+    pub ghost few: { readings ≤ longest },
 }
 
 impl State {
+    ghost use Rattle.ppm_text.specs.States.{start_state, stop_at, with_line, line_after, EndsLine, Takes, AtFront, EndsText, headed};
+
     // Before the first byte.
     pub fn new() -> State
         ensures { result ≡ start_state }
@@ -74,18 +69,17 @@ impl State {
     }
 
     // The reading stops at a fault.
-    fn stop(self, f: Fault) -> State
+    fn stop(mut self, f: Fault) -> State
         ensures { result ≡ stop_at self f }
     {
-        State {
-            fault: Some(f),
-            ..self
-        }
+        self.fault = Some(f);
+        self
     }
 
     // The line after, with n readings before it.
     fn new_line(self, n: usize) -> State
-        ensures { result ≡ line_after self n }
+        requires { n ≤ longest }
+        ensures { (h : _) × (result ≡ line_after self n h) }
     {
         State {
             line: Line::Blank,
@@ -96,8 +90,7 @@ impl State {
     }
 
     // A line with a reading ends.
-    fn with_reading(self, ppm: u32, file: &mut [u8]) -> State
-        requires { Room self.readings file.old }
+    fn with_reading(self, ppm: u32, file: &mut [u8; ROOM]) -> State
         ensures { EndsLine self file.old (Ok (Some ppm)) result file.new }
     {
         let n = self.readings;
@@ -109,8 +102,7 @@ impl State {
     }
 
     // A line ends.
-    fn end_line(self, file: &mut [u8]) -> State
-        requires { Room self.readings file.old }
+    fn end_line(self, file: &mut [u8; ROOM]) -> State
         ensures { EndsLine self file.old (says_after self.line []) result file.new }
     {
         match self.line.says() {
@@ -120,24 +112,27 @@ impl State {
         }
     }
 
+    // The line goes on.
+    fn with_line(mut self, line: Line) -> State
+        ensures { result ≡ with_line self line }
+    {
+        self.line = line;
+        self
+    }
+
     // The text goes on with one more byte.
-    fn step(self, b: u8, file: &mut [u8]) -> State
-        requires { Room self.readings file.old }
+    fn step(self, b: u8, file: &mut [u8; ROOM]) -> State
         ensures { Takes (b ∷ []) self file.old result file.new }
     {
         match self.fault {
             Some(_) => self,
             None if b == b'\n' => self.end_line(file),
-            None => State {
-                line: self.line.next(b),
-                ..self
-            },
+            None => self.with_line(self.line.next(b)),
         }
     }
 
     // The text goes on with one more piece.
-    pub fn feed(self, piece: &[u8], file: &mut [u8]) -> State
-        requires { Room self.readings file.old }
+    pub fn feed(self, piece: &[u8], file: &mut [u8; ROOM]) -> State
         ensures { Takes piece.now self file.old result file.new }
     {
         let mut s = self;
@@ -147,8 +142,18 @@ impl State {
         s
     }
 
+    // The version and the number of readings, in front of them.
+    fn put_header(self, file: &mut [u8; ROOM])
+        ensures { file.new ≡ headed self.readings file.old }
+    {
+        let [high, low] = (self.readings as u16).to_be_bytes();
+        file[0] = 1;
+        file[1] = high;
+        file[2] = low;
+    }
+
     // The text ends at the front of a line.
-    fn close(self, file: &mut [u8]) -> State
+    fn close(self, file: &mut [u8; ROOM]) -> State
         requires { AtFront self file.old }
         ensures { EndsText self file.old result file.new }
     {
@@ -156,7 +161,7 @@ impl State {
             Some(_) => self,
             None if self.readings == 0 => self.stop(Fault::Empty),
             None => {
-                put_header(self.readings, file);
+                self.put_header(file);
                 self
             }
         }
@@ -164,8 +169,7 @@ impl State {
 
     // The text ends, and with it its last line.
     #[tactic(auto, using(crate::proofs::Endings::wrong_before, crate::proofs::Endings::then_ends))]
-    pub fn end_text(self, file: &mut [u8]) -> State
-        requires { Room self.readings file.old }
+    pub fn end_text(self, file: &mut [u8; ROOM]) -> State
         ensures { EndsText self file.old result file.new }
     {
         match self.fault {
