@@ -24,6 +24,7 @@ impl Place {
     }
 }
 
+#[derive(Drop)]
 pub struct Pen<'a> {
     out: &'a mut [u8],
     place: Place,
