@@ -1,12 +1,15 @@
 // Floor 4: the C face. Each call of floor 3 under a C name, with the same promise; a part is answered as its start and its length.
-#![tactic(auto)]
+#![tactic(auto, using(crate::proofs::Faces::faces), unfolding(words::specs::Answers::accepted, words::specs::Answers::broken, words::specs::Answers::listed, words::specs::PlantFile::symbols, crate::specs::Faces::covers_of, crate::specs::Faces::pattern_span, crate::specs::Faces::file_span))]
 
 ghost use Rattle.std.specs.Prelude.{◌≡◌, [], ◌∷◌};
 ghost use Rattle.words.specs.Tables.{border_row, prefix_row, cover_row};
 ghost use Rattle.words.specs.Answers as Answers;
 ghost use Rattle.ceilings.specs.Ceilings.{ceiling_answer};
 ghost use Rattle.repeats.specs.Repeats.{left_cover_row, left_count_row, left_seed_row, seed_count_row};
+ghost use Rattle.finder.specs.Told.{weighing_of};
 ghost use Rattle.cabinet.specs.Faces.{covers_of, pattern_span, file_span};
+
+use refusals::Refusal;
 
 // The cover test: covers is 1 for yes and 0 for no, and 0 where the call is refused.
 #[repr(C)]
@@ -25,25 +28,41 @@ pub struct Span {
     pub len: usize,
 }
 
+// A weighed total, 0 where the call is refused.
+fn weighing(answer: Result<u32, Refusal>) -> words::Weighing
+    ensures { result ≡ weighing_of answer }
+{
+    words::Weighing {
+        number: refusals::number(answer),
+        total: answer.unwrap_or(0),
+    }
+}
+
 #[unsafe(no_mangle)]
 pub extern "C" fn finder_border_table(x: &[u8], t: &mut [u16]) -> words::Written
     ensures { record { answer = result; tables = t.new ∷ [] } ≡ Answers.table_outcome border_row x.now t.old }
 {
-    finder::border_table(x, t)
+    words::Written {
+        number: refusals::number(finder::border_table(x, t)),
+    }
 }
 
 #[unsafe(no_mangle)]
 pub extern "C" fn finder_prefix_table(x: &[u8], t: &mut [u16]) -> words::Written
     ensures { record { answer = result; tables = t.new ∷ [] } ≡ Answers.table_outcome prefix_row x.now t.old }
 {
-    finder::prefix_table(x, t)
+    words::Written {
+        number: refusals::number(finder::prefix_table(x, t)),
+    }
 }
 
 #[unsafe(no_mangle)]
 pub extern "C" fn finder_cover_table(x: &[u8], t: &mut [u16]) -> words::Written
     ensures { record { answer = result; tables = t.new ∷ [] } ≡ Answers.table_outcome cover_row x.now t.old }
 {
-    finder::cover_table(x, t)
+    words::Written {
+        number: refusals::number(finder::cover_table(x, t)),
+    }
 }
 
 #[unsafe(no_mangle)]
@@ -54,7 +73,7 @@ pub extern "C" fn finder_enhanced_table(
 ) -> words::Weighing
     ensures { record { answer = result; tables = best.new ∷ count.new ∷ [] } ≡ Answers.enhanced_outcome x.now best.old count.old }
 {
-    finder::enhanced_table(x, best, count)
+    weighing(finder::enhanced_table(x, best, count))
 }
 
 #[unsafe(no_mangle)]
@@ -70,7 +89,7 @@ pub extern "C" fn finder_window(
 ) -> words::Weighing
     ensures { record { answer = result; tables = border.new ∷ prefix.new ∷ cover.new ∷ best.new ∷ count.new ∷ [] } ≡ Answers.window_outcome x.now a m border.old prefix.old cover.old best.old count.old }
 {
-    finder::window(x, a, m, border, prefix, cover, best, count)
+    weighing(finder::window(x, a, m, border, prefix, cover, best, count))
 }
 
 #[unsafe(no_mangle)]
@@ -81,35 +100,66 @@ pub extern "C" fn finder_left_covers(
 ) -> words::Written
     ensures { record { answer = result; tables = best.new ∷ count.new ∷ [] } ≡ Answers.pair_outcome left_cover_row left_count_row x.now best.old count.old }
 {
-    finder::left_covers(x, best, count)
+    words::Written {
+        number: refusals::number(finder::left_covers(x, best, count)),
+    }
 }
 
 #[unsafe(no_mangle)]
 pub extern "C" fn finder_left_seeds(x: &[u8], best: &mut [u16], count: &mut [u16]) -> words::Written
     ensures { record { answer = result; tables = best.new ∷ count.new ∷ [] } ≡ Answers.pair_outcome left_seed_row seed_count_row x.now best.old count.old }
 {
-    finder::left_seeds(x, best, count)
+    words::Written {
+        number: refusals::number(finder::left_seeds(x, best, count)),
+    }
 }
 
 #[unsafe(no_mangle)]
 pub extern "C" fn finder_normal_form(x: &[u8], i: usize) -> words::Normal
     ensures { result ≡ Answers.normal_answer x.now i }
 {
-    finder::normal_form(x, i)
+    match finder::normal_form(x, i) {
+        Ok(p) => words::Normal {
+            number: 0,
+            k1: p.k1,
+            k2: p.k2,
+            k: p.k,
+        },
+        Err(r) => words::Normal {
+            number: u8::from(r),
+            k1: 0,
+            k2: 0,
+            k: 0,
+        },
+    }
 }
 
 #[unsafe(no_mangle)]
 pub extern "C" fn finder_breakdown(x: &[u8]) -> words::Breakdown
     ensures { result ≡ Answers.breakdown_answer x.now }
 {
-    finder::breakdown(x)
+    let none = words::Part {
+        len: 0,
+        k1: 0,
+        k2: 0,
+        k: 0,
+    };
+    finder::breakdown(x).unwrap_or_else(|r| words::Breakdown {
+        number: u8::from(r),
+        used: 0,
+        parts: [none; words::BREAKDOWN_PLACES],
+    })
 }
 
 #[unsafe(no_mangle)]
 pub extern "C" fn finder_cover_list(x: &[u8], t: &mut [u16]) -> words::Listed
     ensures { record { answer = result; tables = t.new ∷ [] } ≡ Answers.cover_list_outcome x.now t.old }
 {
-    finder::cover_list(x, t)
+    let answer = finder::cover_list(x, t);
+    words::Listed {
+        number: refusals::number(answer),
+        used: answer.unwrap_or(0),
+    }
 }
 
 #[unsafe(no_mangle)]
@@ -117,19 +167,9 @@ pub extern "C" fn finder_cover_test(x: &[u8], i: usize, q: usize) -> Covers
     ensures { result ≡ covers_of (Answers.cover_test_answer x.now i q) }
 {
     let answer = finder::cover_test(x, i, q);
-    match answer {
-        words::CoverTest::Yes => Covers {
-            number: 0,
-            covers: 1,
-        },
-        words::CoverTest::No => Covers {
-            number: 0,
-            covers: 0,
-        },
-        words::CoverTest::Refused(number) => Covers {
-            number: number,
-            covers: 0,
-        },
+    Covers {
+        number: refusals::number(answer),
+        covers: u8::from(answer.unwrap_or(false)),
     }
 }
 
@@ -137,18 +177,23 @@ pub extern "C" fn finder_cover_test(x: &[u8], i: usize, q: usize) -> Covers
 pub extern "C" fn finder_weighed_list(x: &[u8], i: usize) -> words::Weighed
     ensures { result ≡ Answers.weighed_answer x.now i }
 {
-    finder::weighed_list(x, i)
+    finder::weighed_list(x, i).unwrap_or_else(|r| words::Weighed {
+        number: u8::from(r),
+        used: 0,
+        limit: 0,
+        lens: [0u16; words::WEIGHED_PLACES],
+    })
 }
 
 #[unsafe(no_mangle)]
 pub extern "C" fn finder_best_pattern(x: &[u8]) -> Span
     ensures { result ≡ pattern_span x.now }
 {
-    let p = finder::pattern(x);
+    let answer = finder::pattern(x);
     Span {
-        number: p.number,
+        number: refusals::number(answer),
         start: 0,
-        len: p.len,
+        len: answer.unwrap_or(0),
     }
 }
 
@@ -156,25 +201,27 @@ pub extern "C" fn finder_best_pattern(x: &[u8]) -> Span
 pub extern "C" fn finder_ceiling(x: &[u8]) -> ceilings::Ceiling
     ensures { result ≡ ceiling_answer x.now }
 {
-    finder::ceiling(x)
+    finder::ceiling(x).unwrap_or_else(|r| ceilings::Ceiling {
+        number: u8::from(r),
+        held: 0,
+        ceiling: 0,
+    })
 }
 
 #[unsafe(no_mangle)]
 pub extern "C" fn finder_file(f: &[u8]) -> Span
     ensures { result ≡ file_span f.now }
 {
-    let number = logfile::number(f);
-    if number != 0 {
-        return Span {
-            number: number,
+    match logfile::read(f) {
+        Ok(symbols) => Span {
+            number: 0,
+            start: 3,
+            len: symbols.len(),
+        },
+        Err(r) => Span {
+            number: u8::from(r),
             start: 0,
             len: 0,
-        };
-    }
-    let part = logfile::symbols(f);
-    Span {
-        number: 0,
-        start: 3,
-        len: part.len(),
+        },
     }
 }

@@ -1,18 +1,14 @@
 -- The best pattern's number, its length and the part are one answer: what is read off it. Assumes nothing.
-use mathlib.Core.Path.{◌≡◌, refl, sym, ap, ◌∙◌}
-use mathlib.Core.List.{List, []}
-use mathlib.Core.Logic.{⊎_elim}
-use Prim.Native.Nat.{ℕ, ◌+◌, ◌-◌, ◌≤◌, ◌<◌}
-use native.Mathlib.Nat.{sub-zero, zero-add, eq-zero-or-pos}
-use native.Mathlib.Omega.{arith}
-use lib.Dec.{eqb}
-use lib.ListN.{length, take, drop}
-use lib.Seq.{length-take-le}
+use Rattle.std.proofs.Common.{◌≡◌, refl, sym, ap, ◌∙◌, List, [], ⊎_elim, ℕ, ◌≤◌, ◌<◌, eq-zero-or-pos, arith, eqb, length, take, length-take-le, Result, Ok, Err}
+use Rattle.std.specs.Result.{result_unwrap_or}
 use Rattle.words.specs.declared.Pattern.{Pattern}
 use Rattle.words.specs.Words as W
 use Rattle.words.specs.Answers as A
 use Rattle.words.proofs.Refusals.{accepted_yes, accepted_no, answer_yes, answer_no, best_judged}
 use Rattle.words.proofs.Bests.{best_lt}
+use Rattle.refusals.specs.declared.Refusal.{Refusal}
+use Rattle.refusals.specs.Numbers.{number}
+use Rattle.finder.specs.Told.{pattern_of}
 
 module _ (x : List ℕ) {p : Pattern} (e : p ≡ A.pattern_answer x) where
   -- what holds of a pattern that is there and of one that is refused
@@ -42,13 +38,26 @@ module _ (x : List ℕ) {p : Pattern} (e : p ≡ A.pattern_answer x) where
   pub pattern_length : p.len ≡ length (A.best_pattern_part x)
   pattern_length = sym (length-take-le p.len x pattern_within) ∙ ap length pattern_part
 
+-- ---- the same, read off the answer in Rust
+
+length_told : (r : Result ℕ Refusal) → result_unwrap_or r 0 ≡ (pattern_of r).len
+length_told (Ok n) = refl
+length_told (Err k) = refl
+
+number_told : (r : Result ℕ Refusal) → number r ≡ (pattern_of r).number
+number_told (Ok n) = refl
+number_told (Err k) = refl
+
+module _ (x : List ℕ) (r : Result ℕ Refusal) (e : pattern_of r ≡ A.pattern_answer x) where
+  pub pattern_no : number r ≡ A.best_pattern_no x
+  pattern_no = number_told r ∙ pattern_number x e
+
+  pub part_length : result_unwrap_or r 0 ≡ length (A.best_pattern_part x)
+  part_length = length_told r ∙ pattern_length x e
+
   -- `best_pattern`: the part, as the code cuts it
-  pub pattern_cut : {b : ℕ} → b ≡ p.len → take (b - 0) (drop 0 x) ≡ A.best_pattern_part x
-  pattern_cut {b} d = rw (sub-zero b, d) pattern_part
+  pub pattern_cut : take (result_unwrap_or r 0) x ≡ A.best_pattern_part x
+  pattern_cut = rw (length_told r) (pattern_part x e)
 
-  pub cut_within : {b : ℕ} → b ≡ p.len → b ≤ length x
-  cut_within d = rw d pattern_within
-
--- and where it begins
-pub same_place : (p : ℕ × ℕ) → (p.0, 0 + p.1) ≡ p
-same_place p = ap (λ (o : ℕ). (p.0, o)) (zero-add p.1)
+  pub cut_length : result_unwrap_or r 0 ≡ length (take (result_unwrap_or r 0) x)
+  cut_length = rw (length_told r) (sym (length-take-le (pattern_of r).len x (pattern_within x e)))

@@ -1,7 +1,6 @@
 -- Any two outcomes that a call's contract allows are equal: each contract is an equation with a definition, which gives the whole outcome. Assumes nothing.
-use mathlib.Core.Path.{◌≡◌}
-use mathlib.Core.List.{List}
-use Prim.Native.Nat.{ℕ}
+use Rattle.std.proofs.Common.{Bool, true, false, cond, ◌≡◌, refl, sym, ap, List, [], ℕ, Result, Ok, Err, IfOk}
+use Rattle.words.specs.declared.Part.{Part}
 use Rattle.words.specs.declared.Written.{Written}
 use Rattle.words.specs.declared.Weighing.{Weighing}
 use Rattle.words.specs.declared.Listed.{Listed}
@@ -10,11 +9,16 @@ use Rattle.words.specs.declared.Breakdown.{Breakdown}
 use Rattle.words.specs.declared.Weighed.{Weighed}
 use Rattle.words.specs.declared.Pattern.{Pattern}
 use Rattle.words.specs.declared.CoverTest.{CoverTest}
+use Rattle.words.specs.declared.CoverTest.TheVariants.{Yes, No, Refused}
 use Rattle.words.specs.Tables.{Column}
 use Rattle.words.specs.Answers as A
 use Rattle.words.proofs.Refusals.{unique}
 use Rattle.ceilings.specs.declared.Ceiling.{Ceiling}
 use Rattle.ceilings.specs.Ceilings.{ceiling_answer}
+use Rattle.refusals.specs.declared.Refusal.{Refusal}
+use Rattle.refusals.specs.Numbers.{number, stands_for}
+use Rattle.refusals.proofs.Numbers.{some_number, one_refusal, stands_for_one}
+use Rattle.finder.specs.Told.{written_of, weighing_of, listed_of, normal_of, test_of, weighed_of, breakdown_of, pattern_of, ceiling_of}
 
 -- with tables: the answer and every table afterwards. border_table, prefix_table and cover_table, with their columns
 pub one_table : (f : Column) (x t : List ℕ) {o o' : A.Outcome Written} → o ≡ A.table_outcome f x t → o' ≡ A.table_outcome f x t → o ≡ o'
@@ -58,3 +62,62 @@ pub one_pattern : (x : List ℕ) (at : ℕ × ℕ) {p p' : List ℕ} {l l' : ℕ
     → (p ≡ A.best_pattern_part x) × (l ≡ at) × (k ≡ A.best_pattern_no x) → (p' ≡ A.best_pattern_part x) × (l' ≡ at) × (k' ≡ A.best_pattern_no x)
     → (p ≡ p') × (l ≡ l') × (k ≡ k')
 one_pattern x at a b = (unique a.0 b.0, unique a.1 b.1, unique a.2 b.2)
+
+-- ---- the answers in Rust: the document's answer is that of one of them alone
+
+no_number : CoverTest → ℕ
+no_number Yes = 0
+no_number No = 0
+no_number (Refused k) = k
+
+pub one_written : (r s : Result (Unit {0}) Refusal) → written_of r ≡ written_of s → r ≡ s
+one_written = stands_for_one _ _ (λ w. w.number) (λ v. refl) (λ k. refl) (λ v w e. refl)
+
+pub one_weighing : (r s : Result ℕ Refusal) → weighing_of r ≡ weighing_of s → r ≡ s
+one_weighing = stands_for_one _ A.no_weighing (λ w. w.number) (λ v. refl) (λ k. refl) (λ v w e. ap (λ (u : Weighing). u.total) e)
+
+pub one_listed : (r s : Result ℕ Refusal) → listed_of r ≡ listed_of s → r ≡ s
+one_listed = stands_for_one _ (λ k. record { number = k; used = 0 }) (λ l. l.number) (λ v. refl) (λ k. refl) (λ v w e. ap (λ (u : Listed). u.used) e)
+
+pub one_told : (r s : Result Bool Refusal) → test_of r ≡ test_of s → r ≡ s
+unfolding no_number
+one_told = stands_for_one _ Refused no_number zero (λ k. refl) same
+  where
+    zero : (b : Bool) → no_number (cond b Yes No) ≡ 0
+    zero true = refl
+    zero false = refl
+
+    same : (b c : Bool) → cond b Yes No ≡ cond c Yes No → b ≡ c
+    same true true e = refl
+    same true false e = cc
+    same false true e = cc
+    same false false e = refl
+
+pub one_found : (r s : Result ℕ Refusal) → pattern_of r ≡ pattern_of s → r ≡ s
+one_found = stands_for_one _ (λ k. record { number = k; len = 0 }) (λ p. p.number) (λ v. refl) (λ k. refl) (λ v w e. ap (λ (u : Pattern). u.len) e)
+
+-- a normal form, of so many readings
+pub one_form : (i : ℕ) (r s : Result Part Refusal) → IfOk r (λ p. p.len ≡ i) → IfOk s (λ p. p.len ≡ i) → normal_of r ≡ normal_of s → r ≡ s
+one_form i (Ok p) (Ok q) a b e =
+    let l : p.len ≡ q.len = unique a b in
+    ap Ok (rw (l, ap (λ (u : Normal). u.k1) e, ap (λ (u : Normal). u.k2) e, ap (λ (u : Normal). u.k) e))
+one_form i (Ok p) (Err k) a b e = absurd (some_number k (sym (ap (λ (u : Normal). u.number) e)))
+one_form i (Err k) (Ok q) a b e = absurd (some_number k (ap (λ (u : Normal). u.number) e))
+one_form i (Err k) (Err l) a b e = ap Err (one_refusal (ap (λ (u : Normal). u.number) e))
+
+-- weighed_list, breakdown and ceiling: where both are refused, or neither is
+module _ {A : Type 0} (refusal : ℕ → A) where
+  one_struct : (r s : Result A Refusal) → number r ≡ number s → stands_for (λ v. v) refusal r ≡ stands_for (λ v. v) refusal s → r ≡ s
+  one_struct (Ok v) (Ok w) n e = ap Ok e
+  one_struct (Ok v) (Err k) n e = absurd (some_number k (sym n))
+  one_struct (Err k) (Ok w) n e = absurd (some_number k n)
+  one_struct (Err k) (Err l) n e = ap Err (one_refusal n)
+
+pub one_weights : (r s : Result Weighed Refusal) → number r ≡ number s → weighed_of r ≡ weighed_of s → r ≡ s
+one_weights = one_struct (λ k. A.listed k [] 0)
+
+pub one_parts : (r s : Result Breakdown Refusal) → number r ≡ number s → breakdown_of r ≡ breakdown_of s → r ≡ s
+one_parts = one_struct (λ k. A.broken k [])
+
+pub one_head : (r s : Result Ceiling Refusal) → number r ≡ number s → ceiling_of r ≡ ceiling_of s → r ≡ s
+one_head = one_struct (λ k. record { number = k; held = 0; ceiling = 0 })

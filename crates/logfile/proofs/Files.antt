@@ -1,12 +1,6 @@
 -- The symbols of an accepted file are an accepted log. Assumes nothing.
-use mathlib.Core.Bool.{not}
-use mathlib.Core.Path.{◌≡◌, sym, ap, ◌∙◌}
-use mathlib.Core.List.{List, []}
-use Prim.Native.Nat.{ℕ, ◌+◌}
-use native.Mathlib.Omega.{arith}
-use lib.Dec.{eqb, ltb}
-use lib.ListN.{length, get_or, drop, length-drop}
-use borrow.Author.Tests.{ltb-false, eqb-false, not-false, eqb-true}
+use Rattle.std.proofs.Common.{not, ◌≡◌, sym, ap, ◌∙◌, List, [], ℕ, ◌+◌, arith, eqb, ltb, length, get_or, drop, length-drop, ltb-false, eqb-true}
+use borrow.Author.Tests.{eqb-false, not-false}
 use Rattle.words.specs.Refusals.{longest}
 use Rattle.words.specs.PlantFile as F
 use Rattle.words.proofs.Refusals.{Judged, accepted_yes, first_zero}

@@ -1,12 +1,5 @@
 -- On an accepted log the cover test answers Yes exactly where the prefix is there and the pattern covers it. Assumes nothing.
-use mathlib.Core.Bool.{Bool, true, false, cond, true≢false, ◌||◌}
-use mathlib.Core.Path.{◌≡◌, sym, ap, ◌∙◌}
-use mathlib.Core.List.{List, [], ◌∷◌}
-use Prim.Native.Nat.{ℕ, ◌≤◌, ◌<◌}
-use native.Mathlib.Omega.{arith}
-use lib.Dec.{eqb}
-use lib.ListN.{length}
-use borrow.Author.Tests.{eqb-true, ne_eqb, le-ltb}
+use Rattle.std.proofs.Common.{Bool, true, false, cond, true≢false, ◌||◌, ◌≡◌, sym, ap, ◌∙◌, List, [], ◌∷◌, ℕ, ◌≤◌, ◌<◌, arith, eqb, length, eqb-true, ne_eqb, le-ltb}
 use Rattle.words.specs.declared.CoverTest.{CoverTest}
 use Rattle.words.specs.declared.CoverTest.TheVariants.{Yes, No, Refused}
 use Rattle.words.specs.Refusals.{log_no, cover_test_no, outside, place}

@@ -1,12 +1,6 @@
 -- The order among patterns holds of every accepted log, and the list of covers is the chain that it makes. Assumes nothing.
-use mathlib.Core.Path.{◌≡◌, refl, ap, ◌∙◌, subst⁻¹}
-use mathlib.Core.List.{List, [], ◌∷◌}
-use mathlib.Core.Logic.{inl, inr, ⊎_elim}
-use Prim.Native.Nat.{ℕ, ◌≤◌, ◌<◌}
-use native.Mathlib.Nat.{le_refl, eq-zero-or-pos, eq-or-lt_of_le}
-use native.Mathlib.Omega.{arith}
-use lib.Dec.{eqb}
-use lib.ListN.{length, get_or, take, drop}
+use Rattle.std.proofs.Common.{◌≡◌, refl, ap, ◌∙◌, List, [], ◌∷◌, inl, inr, ⊎_elim, ℕ, ◌≤◌, ◌<◌, le_refl, eq-zero-or-pos, eq-or-lt_of_le, arith, eqb, length, get_or, take, drop}
+use mathlib.Core.Path.{subst⁻¹}
 use lib.Seq.{take-append_seam}
 use Rattle.words.specs.declared.CoverTest.TheVariants.{Yes}
 use Rattle.words.specs.declared.Listed.{Listed}

@@ -1,143 +1,133 @@
-// Floor 3: the numbers that say no, each test in its order. 0 says that no test passed.
-#![tactic(auto)]
+// Floor 3: what a call refuses, each test in its order.
+#![tactic(auto, using(crate::proofs::Rooms::fewer_any), unfolding(words::specs::Refusals::first_no, words::specs::Refusals::log_no, words::specs::Refusals::table_no, words::specs::Refusals::prefix_no, words::specs::Refusals::cover_test_no, words::specs::Refusals::best_no, words::specs::Refusals::window_no))]
 
-ghost use Rattle.std.specs.Prelude.{◌≡◌, [], ◌∷◌, min};
+ghost use Rattle.std.specs.Prelude.{◌≡◌, ltb};
+ghost use Rattle.std.specs.List.{list_any};
 ghost use Rattle.words.specs.Refusals.{log_no, table_no, prefix_no, cover_test_no, best_no, window_no};
+ghost use Rattle.refusals.specs.Numbers.{number, number_of};
 
-pub const EMPTY: u8 = 1;
+// Why a call is refused, with the document's numbers: 0 is none of them.
+#[derive(Clone, Copy, PartialEq, Eq, Debug)]
+pub enum Refusal {
+    Empty = 1,
+    Long = 2,
+    Place = 3,
+    Short = 4,
+    NoPattern = 5,
+    Version = 6,
+    File = 7,
+    Symbol = 8,
+}
 
-pub const LONG: u8 = 2;
+impl From<Refusal> for u8 {
+    ghost from_gives = { λ r n. n ≡ number_of r };
 
-pub const PLACE: u8 = 3;
+    fn from(r: Refusal) -> u8 {
+        r as u8
+    }
+}
 
-pub const SHORT: u8 = 4;
-
-pub const NONE: u8 = 5;
+// The number of an answer: 0 where nothing is refused.
+pub fn number<T: Drop>(answer: Result<T, Refusal>) -> u8
+    ensures { result ≡ number answer }
+{
+    match answer {
+        Ok(_) => 0,
+        Err(r) => u8::from(r),
+    }
+}
 
 // A log of n readings.
-pub fn log(n: usize) -> u8
-    ensures { result ≡ log_no n }
+pub fn log(n: usize) -> Result<(), Refusal>
+    ensures { number result ≡ log_no n }
 {
     if n == 0 {
-        return EMPTY;
+        return Err(Refusal::Empty);
     }
     if words::LONGEST < n {
-        return LONG;
+        return Err(Refusal::Long);
     }
-    0
+    Ok(())
 }
 
-// With a lent table of so many entries.
-pub fn table(n: usize, room: usize) -> u8
-    ensures { result ≡ table_no n (room ∷ []) }
+// Whether one of the lent tables, of these lengths, has fewer than n entries.
+fn fewer(rooms: &[usize], n: usize) -> bool
+    ensures { result ≡ list_any (λ r. ltb r n) rooms.now }
 {
-    let no = log(n);
-    if no != 0 {
-        return no;
-    }
-    if room < n {
-        return SHORT;
-    }
-    0
+    rooms.iter().any(|r| *r < n)
 }
 
-// The smaller of two.
-fn least(a: usize, b: usize) -> usize
-    ensures { result ≡ min a b }
+// With lent tables of so many entries each.
+pub fn tables<const K: usize>(n: usize, rooms: [usize; K]) -> Result<(), Refusal>
+    ensures { number result ≡ table_no n rooms.entry }
 {
-    if a < b { a } else { b }
-}
-
-// With two lent tables.
-pub fn two_tables(n: usize, a: usize, b: usize) -> u8
-    ensures { result ≡ table_no n (a ∷ b ∷ []) }
-{
-    table(n, least(a, b))
+    log(n)?;
+    if fewer(&rooms, n) {
+        return Err(Refusal::Short);
+    }
+    Ok(())
 }
 
 // At the prefix of length i.
-pub fn prefix(n: usize, i: usize) -> u8
-    ensures { result ≡ prefix_no n i }
+pub fn prefix(n: usize, i: usize) -> Result<(), Refusal>
+    ensures { number result ≡ prefix_no n i }
 {
-    let no = log(n);
-    if no != 0 {
-        return no;
-    }
+    log(n)?;
     if i == 0 {
-        return PLACE;
+        return Err(Refusal::Place);
     }
     if n < i {
-        return PLACE;
+        return Err(Refusal::Place);
     }
-    0
+    Ok(())
 }
 
 // With a pattern of length q at the prefix of length i.
-pub fn cover_test(n: usize, i: usize, q: usize) -> u8
-    ensures { result ≡ cover_test_no n i q }
+pub fn cover_test(n: usize, i: usize, q: usize) -> Result<(), Refusal>
+    ensures { number result ≡ cover_test_no n i q }
 {
-    let no = prefix(n, i);
-    if no != 0 {
-        return no;
-    }
+    prefix(n, i)?;
     if q == 0 {
-        return PLACE;
+        return Err(Refusal::Place);
     }
     if i < q {
-        return PLACE;
+        return Err(Refusal::Place);
     }
-    0
+    Ok(())
 }
 
 // Where Best of the whole log is b.
-pub fn best(n: usize, b: usize) -> u8
-    ensures { result ≡ best_no n b }
+pub fn best(n: usize, b: usize) -> Result<(), Refusal>
+    ensures { number result ≡ best_no n b }
 {
-    let no = log(n);
-    if no != 0 {
-        return no;
-    }
+    log(n)?;
     if b == 0 {
-        return NONE;
+        return Err(Refusal::NoPattern);
     }
-    0
+    Ok(())
 }
 
-// A window of m readings after the first a, with a lent table of so many entries. The sum of a and m may be above every usize.
-fn window_in(n: usize, a: usize, m: usize, room: usize) -> u8
-    ensures { result ≡ window_no n a m (room ∷ []) }
-{
-    let no = log(n);
-    if no != 0 {
-        return no;
-    }
-    if m == 0 {
-        return PLACE;
-    }
-    if n < m {
-        return PLACE;
-    }
-    if n - m < a {
-        return PLACE;
-    }
-    if room < a + m {
-        return SHORT;
-    }
-    0
-}
-
-// With five lent tables.
-pub fn window(
+// A window of m readings after the first a, with lent tables of so many entries each. The sum of a and m may be above every usize.
+pub fn window<const K: usize>(
     n: usize,
     a: usize,
     m: usize,
-    r1: usize,
-    r2: usize,
-    r3: usize,
-    r4: usize,
-    r5: usize,
-) -> u8
-    ensures { result ≡ window_no n a m (r1 ∷ r2 ∷ r3 ∷ r4 ∷ r5 ∷ []) }
+    rooms: [usize; K],
+) -> Result<(), Refusal>
+    ensures { number result ≡ window_no n a m rooms.entry }
 {
-    window_in(n, a, m, least(least(least(least(r1, r2), r3), r4), r5))
+    log(n)?;
+    if m == 0 {
+        return Err(Refusal::Place);
+    }
+    if n < m {
+        return Err(Refusal::Place);
+    }
+    if n - m < a {
+        return Err(Refusal::Place);
+    }
+    if fewer(&rooms, a + m) {
+        return Err(Refusal::Short);
+    }
+    Ok(())
 }
