@@ -3,6 +3,7 @@
 
 use legend::Findings;
 use pen::Pen;
+use refusals::Refusal;
 
 // The most bytes of a picture. A box has at most 32 of them, as `M99975 35600H100000V37000H99975z`, and a step 12, as `H99975V31500`.
 // For each reading there is at most one step and one occurrence; for each two readings one run at the ceiling, with two boxes, and one run that is not
@@ -10,30 +11,27 @@ use pen::Pen;
 pub const ROOM: usize = 96 * words::LONGEST;
 
 // The picture of a log with its report.
+#[tactic(auto, unfolding(words::specs::Refusals::log_no, words::specs::Refusals::first_no))]
 pub fn draw(pen: &mut Pen, x: &[u8], r: &Findings) {
-    let n = x.len();
-    if n == 0 {
-        return refuse(pen, 1);
-    }
-    if words::LONGEST < n {
-        return refuse(pen, 2);
+    if let Err(no) = refusals::log(x.len()) {
+        return refuse(pen, no);
     }
     let q = usize::from(r.best);
     chart::draw(pen, x, q);
-    chart::name_lanes(pen, q, usize::from(r.count), n);
+    chart::name_lanes(pen, q, usize::from(r.count), x.len());
     legend::alarm(pen, x, r.ceiling.ceiling);
-    legend::report(pen, n, r);
+    legend::report(pen, x.len(), r);
     pen.say(b"</svg>\n");
 }
 
 // The picture of a file that was refused.
-pub fn refuse(pen: &mut Pen, number: u8) {
+pub fn refuse(pen: &mut Pen, no: Refusal) {
     pen.put(
         b"<svg xmlns='http://www.w3.org/2000/svg' viewBox='0 0 400 100' width='400' height='100' role='img'>
 <title>Log of a CO&#8322; head</title>
 <rect width='400' height='100' fill='#fff'/>
 <text x='40' y='62' style='font-family:Helvetica,Arial,sans-serif;font-size:30px;font-weight:bold;fill:#b00020'>refused ",
-        usize::from(number),
+        usize::from(u8::from(no)),
     );
     pen.say(b"</text>\n</svg>\n");
 }

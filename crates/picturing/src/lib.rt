@@ -32,11 +32,10 @@ fn draw(pen: &mut Pen, x: &[u8])
 
 // The picture of a file's bytes.
 pub fn picture_of(pen: &mut Pen, file: &[u8]) {
-    let number = logfile::number(file);
-    if number != 0 {
-        return drawing::refuse(pen, number);
+    match logfile::read(file) {
+        Ok(x) => draw(pen, x),
+        Err(no) => drawing::refuse(pen, no),
     }
-    draw(pen, logfile::symbols(file));
 }
 
 // Reads a file and writes its picture. Whether it was written whole.
