@@ -1,14 +1,5 @@
 -- How far the occurrences reach, and the marks that follow from it. Each premise stands as the code's tests give it. Assumes nothing.
-use mathlib.Core.Bool.{true, false, true≢false}
-use mathlib.Core.Path.{◌≡◌, refl, sym, ◌∙◌}
-use mathlib.Core.List.{List}
-use mathlib.Core.Logic.{inl, ⊎_elim}
-use Prim.Native.Nat.{ℕ, suc, ◌+◌, ◌≤◌, ◌<◌}
-use native.Mathlib.Omega.{arith}
-use native.Mathlib.Nat.{eq-or-lt_of_le}
-use lib.Dec.{eqb, leb, ltb}
-use lib.ListN.{length}
-use borrow.Author.Tests.{lt-ltb, ltb-true, leb-true}
+use Rattle.std.proofs.Common.{true, false, true≢false, ◌≡◌, refl, sym, ◌∙◌, List, inl, ⊎_elim, ℕ, suc, ◌+◌, ◌≤◌, ◌<◌, arith, eq-or-lt_of_le, eqb, leb, ltb, length, lt-ltb, ltb-true, leb-true}
 use Rattle.words.specs.Words.{occurs, inside}
 use Rattle.words.proofs.Tests.{not_passed, and_left, and_right, and_both, and3}
 use Rattle.words.proofs.Search.{any_some, some_any}

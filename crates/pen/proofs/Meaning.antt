@@ -1,16 +1,6 @@
 -- What the contracts say in words: a piece that fits stands behind the text, and one that does not changes nothing but the pen, for good. Assumes nothing.
-use mathlib.Core.Bool.{true, false, cond, true≢false}
-use mathlib.Core.Path.{◌≡◌, refl, sym, ap, ◌∙◌}
-use mathlib.Core.List.{List, [], ◌++◌}
-use mathlib.Core.Logic.{◌↔◌}
-use Prim.Native.Nat.{ℕ, ◌+◌, ◌≤◌}
-use native.Mathlib.Omega.{arith}
-use lib.Dec.{leb}
-use lib.ListN.{length, take, length-append}
-use lib.Seq.{take-paste, take-length}
-use borrow.Author.Tests.{le-leb, leb-true}
-use mir.Syntax.{w64}
-use mir.Val.{Fits}
+use Rattle.std.proofs.Common.{true, false, cond, true≢false, ◌≡◌, refl, sym, ap, ◌∙◌, List, [], ◌++◌, ◌↔◌, ℕ, ◌+◌, ◌≤◌, arith, leb, length, take, length-append, le-leb, leb-true, w64, Fits}
+use Rattle.std.proofs.Math.Seq.{take-paste, take-length}
 use Rattle.io.specs.Digits as Io
 use Rattle.words.proofs.Tests.{by_test, not_passed, both_ways, and_left, and_right, and_both}
 use Rattle.lines.specs.Text.{decimal, Put}

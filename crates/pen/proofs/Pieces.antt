@@ -1,14 +1,6 @@
 -- A piece behind a text. Each premise stands as the code's tests give it. Assumes nothing.
-use mathlib.Core.Bool.{Bool, true}
-use mathlib.Core.Path.{◌≡◌, refl, sym, ◌∙◌}
-use mathlib.Core.List.{List}
-use Prim.Native.Nat.{ℕ, ◌+◌, ◌≤◌}
-use native.Mathlib.Omega.{arith}
-use lib.ListN.{length}
-use lib.Seq.{length-paste}
-use borrow.Author.Tests.{leb-true}
-use mir.Syntax.{w64}
-use mir.Val.{Fits}
+use Rattle.std.proofs.Common.{Bool, true, ◌≡◌, refl, sym, ◌∙◌, List, ℕ, ◌+◌, ◌≤◌, arith, length, leb-true, w64, Fits}
+use Rattle.std.proofs.Math.Seq.{length-paste}
 use Rattle.io.specs.Digits as Io
 use Rattle.words.proofs.Tests.{by_test, and_left}
 use Rattle.lines.proofs.Texts.{decimal_is}

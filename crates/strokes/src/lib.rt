@@ -33,6 +33,7 @@ const MISSED: Strip = Strip {
 };
 
 // Where the reading after the first k of n begins.
+#[tactic(auto, using(crate::proofs::Places::part_of_width))]
 fn across(k: usize, n: usize) -> usize
     ensures { result ≤ 100000 }
 {
@@ -61,7 +62,7 @@ fn enclose(pen: &mut Pen, a: usize, e: usize, n: usize, strip: Strip) {
     pen.say(b"z");
 }
 
-// A box around each run of v. After a run comes another reading, or none.
+// A box around each run of v. After a run comes another reading, or none: the loop goes from run to run, and counts no index.
 pub fn enclose_runs(pen: &mut Pen, x: &[u8], v: u8, strip: Strip) {
     let mut a = 0;
     while a < x.len() {

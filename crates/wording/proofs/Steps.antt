@@ -1,9 +1,5 @@
 -- What each way through the functions comes to: the words that its test picks. Assumes nothing.
-use mathlib.Core.Path.{◌≡◌}
-use mathlib.Core.List.{List}
-use Prim.Native.Nat.{ℕ}
-use lib.ListN.{length}
-use borrow.Author.Tests.{eq-eqb, ne_eqb}
+use Rattle.std.proofs.Common.{◌≡◌, List, ℕ, length, eq-eqb, ne_eqb}
 use Rattle.words.specs.PlantFile.{ceiling_symbol}
 use Rattle.ceilings.specs.declared.Ceiling.{Ceiling}
 use Rattle.ceilings.specs.Ceilings.{ceiling_of}
