@@ -9,14 +9,21 @@ use Rattle.pen.specs.Pens.{Wrote}
 use Rattle.wording.specs.Wording.{pick, told, band}
 use Rattle.wording.proofs.Meaning.{last_run_is}
 
-module _ (n m : ℕ) (s t : List ℕ) {p r : Pen} where
-  pub pick_first : n ≡ m → Wrote p s r → Wrote p (pick n m s t) r
+module _ (n m : ℕ) (s t : List ℕ) where
+  -- what holds of the text that is picked holds of the pick
+  pub pick_first : (P : List ℕ → Type 0) → n ≡ m → P s → P (pick n m s t)
   unfolding pick
-  pick_first e a = rw (eq-eqb n m e) a
+  pick_first P e a = rw (eq-eqb n m e) a
 
-  pub pick_second : (n ≡ m → ⊥) → Wrote p t r → Wrote p (pick n m s t) r
+  pub pick_second : (P : List ℕ → Type 0) → (n ≡ m → ⊥) → P t → P (pick n m s t)
   unfolding pick
-  pick_second e a = rw (ne_eqb n m e) a
+  pick_second P e a = rw (ne_eqb n m e) a
+
+  pub wrote_first : {p r : Pen} → n ≡ m → Wrote p s r → Wrote p (pick n m s t) r
+  wrote_first {p} {r} e a = pick_first (λ (l : List ℕ). Wrote p l r) e a
+
+  pub wrote_second : {p r : Pen} → (n ≡ m → ⊥) → Wrote p t r → Wrote p (pick n m s t) r
+  wrote_second {p} {r} e a = pick_second (λ (l : List ℕ). Wrote p l r) e a
 
 -- the band over the log's own ceiling and run
 pub band_told : (x : List ℕ) {c : Ceiling} {k : ℕ} {p r : Pen} → c ≡ ceiling_of x → LastRun x ceiling_symbol k
