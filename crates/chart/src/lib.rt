@@ -6,12 +6,11 @@
 ghost use Rattle.std.specs.Prelude.{◌≤◌, ◌<◌, length};
 ghost use Rattle.words.specs.Refusals.{longest};
 
-use pen::{Pen, put, say};
+use pen::Pen;
+use strokes::Strip;
 
-fn sheet(out: &mut [u8], n: usize) -> Pen {
-    let p = put(
-        out,
-        pen::begin(),
+fn sheet(pen: &mut Pen, n: usize) {
+    pen.put(
         b"<svg xmlns='http://www.w3.org/2000/svg' viewBox='0 0 1200 876' width='1200' height='876' role='img'>
 <title>Log of a CO&#8322; head</title>
 <style>
@@ -39,10 +38,8 @@ path{fill:none;stroke:none}
 <text class='title' x='40' y='54' xml:space='preserve'>CO<tspan class='sub' dy='8'>2</tspan><tspan dy='-8'> log: ",
         n,
     );
-    let p = wording::readings(out, p, n);
-    say(
-        out,
-        p,
+    wording::readings(pen, n);
+    pen.say(
         b"</tspan></text>
 <text class='note end' x='148' y='180'>ppm</text>
 <text class='red end' x='148' y='207'>ceiling 2000</text>
@@ -55,104 +52,102 @@ path{fill:none;stroke:none}
 <clipPath id='plot'><path d='M0 0H100000V33000H0z'/></clipPath>
 <path class='grid' d='M0 33000H100000M0 25500H100000M0 18000H100000M0 10500H100000'/>
 ",
-    )
+    );
 }
 
 // How thick the line of n readings is.
 fn thickness(n: usize) -> usize {
-    if n <= 500 {
-        return 140;
+    match n {
+        0..=500 => 140,
+        501..=1500 => 90,
+        _ => 50,
     }
-    if n <= 1500 {
-        return 90;
-    }
-    50
 }
 
 // The readings.
-fn line(out: &mut [u8], pen: Pen, x: &[u8]) -> Pen
+fn line(pen: &mut Pen, x: &[u8])
     requires { 0 < length x.now }
 {
-    let p = strokes::put_two(
-        out,
-        pen,
+    pen.put(
         b"<path class='readings' clip-path='url(#plot)' stroke-width='",
         thickness(x.len()),
-        b"' d='M0 33000V",
-        strokes::down(x[0]),
     );
-    let p = strokes::steps(out, p, x);
-    say(out, p, b"H100000V33000'/>\n")
+    pen.put(b"' d='M0 33000V", strokes::down(x[0]));
+    strokes::steps(pen, x);
+    pen.say(b"H100000V33000'/>\n");
 }
 
+// The whole height of the plot, and a bar over it at the ceiling.
+const PLOT: Strip = Strip {
+    top: 0,
+    bottom: 33000,
+};
+
+const TOP: Strip = Strip {
+    top: 2600,
+    bottom: 3400,
+};
+
 // What is at the ceiling, in red.
-fn stuck(out: &mut [u8], pen: Pen, x: &[u8]) -> Pen {
-    let p = say(out, pen, b"<path class='stuck' d='");
-    let p = strokes::enclose_runs(out, p, x, words::CEILING, 0, 33000);
-    let p = say(
-        out,
-        p,
-        b"'/>\n<path class='ceiling' d='M0 3000H100000'/>\n<path class='top' d='",
-    );
-    let p = strokes::enclose_runs(out, p, x, words::CEILING, 2600, 3400);
-    say(out, p, b"'/>\n")
+fn stuck(pen: &mut Pen, x: &[u8]) {
+    pen.say(b"<path class='stuck' d='");
+    strokes::enclose_runs(pen, x, words::CEILING, PLOT);
+    pen.say(b"'/>\n<path class='ceiling' d='M0 3000H100000'/>\n<path class='top' d='");
+    strokes::enclose_runs(pen, x, words::CEILING, TOP);
+    pen.say(b"'/>\n");
 }
 
 // How the pattern of length q lies in the log; nothing where there is none.
-fn lanes(out: &mut [u8], pen: Pen, x: &[u8], q: usize) -> Pen
+fn lanes(pen: &mut Pen, x: &[u8], q: usize)
     requires { length x.now ≤ longest }
 {
     if q == 0 {
-        return pen;
+        return;
     }
     let mut marks = [0u8; words::LONGEST];
     marks::mark_all(x, q, &mut marks);
-    marked(out, pen, &marks[0..x.len()], q)
+    marked(pen, &marks[..x.len()], q);
 }
 
-fn marked(out: &mut [u8], pen: Pen, marks: &[u8], q: usize) -> Pen {
-    let p = say(out, pen, b"<path class='pattern' d='");
-    let p = strokes::occurrences(out, p, marks, q);
-    let p = say(out, p, b"'/>\n<path class='missed' d='");
-    let p = strokes::gaps(out, p, marks);
-    say(out, p, b"'/>\n")
+fn marked(pen: &mut Pen, marks: &[u8], q: usize) {
+    pen.say(b"<path class='pattern' d='");
+    strokes::occurrences(pen, marks, q);
+    pen.say(b"'/>\n<path class='missed' d='");
+    strokes::gaps(pen, marks);
+    pen.say(b"'/>\n");
 }
 
-fn axis(out: &mut [u8], pen: Pen, n: usize) -> Pen {
-    let p = say(out, pen, b"<g class='ticks'>\n");
-    let p = strokes::labels(out, p, n);
-    say(out, p, b"</g>\n</g>\n")
+fn axis(pen: &mut Pen, n: usize) {
+    pen.say(b"<g class='ticks'>\n");
+    strokes::labels(pen, n);
+    pen.say(b"</g>\n</g>\n");
 }
 
-pub fn draw(out: &mut [u8], x: &[u8], q: usize) -> Pen
+pub fn draw(pen: &mut Pen, x: &[u8], q: usize)
     requires { (0 < length x.now) × (length x.now ≤ longest) }
 {
-    let p = sheet(out, x.len());
-    let p = line(out, p, x);
-    let p = stuck(out, p, x);
-    let p = lanes(out, p, x, q);
-    axis(out, p, x.len())
+    sheet(pen, x.len());
+    line(pen, x);
+    stuck(pen, x);
+    lanes(pen, x, q);
+    axis(pen, x.len());
 }
 
 // What stands at the lanes: the best pattern, of length q, covers count of n readings.
-pub fn name_lanes(out: &mut [u8], pen: Pen, q: usize, count: usize, n: usize) -> Pen {
+pub fn name_lanes(pen: &mut Pen, q: usize, count: usize, n: usize) {
     if q == 0 {
-        return say(
-            out,
-            pen,
+        pen.say(
             b"<text class='note' x='160' y='544'>No pattern: no first part of the log comes again at its end.</text>\n",
         );
+        return;
     }
-    let p = strokes::put_two(
-        out,
-        pen,
+    pen.put(
         b"<text class='end' x='148' y='532'>best pattern</text>
 <text class='end' x='148' y='567'>not covered</text>
 <text x='160' y='636'>Best pattern: length ",
         q,
-        b". It covers ",
-        count,
     );
-    let p = put(out, p, b" of ", n);
-    say(out, p, b" readings.</text>\n")
+    pen.put(b". It covers ", count);
+    pen.put(b" of ", n);
+    pen.say(b" readings.</text>\n");
 }

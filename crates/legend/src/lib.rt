@@ -1,180 +1,135 @@
 // Floor 4: what stands around the chart: the band under the picture's title, and the report below.
 #![tactic(auto)]
 
-ghost use Rattle.std.specs.Prelude.{◌≤◌, ◌<◌, length};
+ghost use Rattle.std.specs.Prelude.{◌≤◌, length};
 ghost use Rattle.words.specs.Refusals.{longest};
 
 use ceilings::Ceiling;
-use pen::{Pen, put, say};
+use pen::Pen;
 
-// The numbers of the report, but for its lists.
+// What the report says of a log.
 #[derive(Clone, Copy)]
-pub struct Numbers {
-    pub k1: u16,
-    pub k2: u16,
-    pub k: u16,
+pub struct Findings<'a> {
+    pub normal: words::Part,
+    pub covers: &'a [u16],
     pub best: u16,
     pub count: u16,
+    pub weighed: &'a [u16],
     pub ceiling: Ceiling,
 }
 
 // ---- the band under the title: how the readings stand to the ceiling
 
-// The band's words in a frame.
-fn framed(out: &mut [u8], pen: Pen, x: &[u8], before: &[u8], after: &[u8]) -> Pen
-    requires { length x.now ≤ longest }
-{
-    let p = say(out, pen, before);
-    let p = wording::band(out, p, x);
-    say(out, p, after)
-}
-
-// The frame goes with the words: calm where no reading is at the ceiling, red where the log ends there. `ceiling` is how many of its readings are.
-pub fn alarm(out: &mut [u8], pen: Pen, x: &[u8], ceiling: u16) -> Pen
-    requires { (0 < length x.now) × (length x.now ≤ longest) }
-{
+// What stands before the band's words and behind them: calm where no reading is at the ceiling, red where the log ends there. `ceiling` is how many of its
+// readings are.
+fn frame(x: &[u8], ceiling: u16) -> (&'static [u8], &'static [u8]) {
     if ceiling == 0 {
-        return framed(
-            out,
-            pen,
-            x,
+        return (
             b"<rect x='40' y='76' width='1120' height='72' fill='#f2f2f2'/>\n<text x='60' y='119'>",
             b"</text>\n",
         );
     }
-    if x[x.len() - 1] != words::CEILING {
-        return framed(
-            out,
-            pen,
-            x,
-            b"<rect x='41' y='77' width='1118' height='70' fill='#fff' stroke='#b00020' stroke-width='2'/>
-<text class='alarm red' x='60' y='108'>",
-            b"</text>\n<text class='red' x='60' y='136'>There the room may have held far more than 2000 ppm.</text>\n",
+    if x.last() == Some(&words::CEILING) {
+        return (
+            b"<rect x='40' y='76' width='1120' height='72' fill='#b00020'/>\n<text class='alarm white' x='60' y='108'>",
+            b"</text>\n<text class='white' x='60' y='136'>The room may hold far more than 2000 ppm.</text>\n",
         );
     }
-    framed(
-        out,
-        pen,
-        x,
-        b"<rect x='40' y='76' width='1120' height='72' fill='#b00020'/>\n<text class='alarm white' x='60' y='108'>",
-        b"</text>\n<text class='white' x='60' y='136'>The room may hold far more than 2000 ppm.</text>\n",
+    (
+        b"<rect x='41' y='77' width='1118' height='70' fill='#fff' stroke='#b00020' stroke-width='2'/>
+<text class='alarm red' x='60' y='108'>",
+        b"</text>\n<text class='red' x='60' y='136'>There the room may have held far more than 2000 ppm.</text>\n",
     )
+}
+
+// The band's words in their frame.
+pub fn alarm(pen: &mut Pen, x: &[u8], ceiling: u16)
+    requires { length x.now ≤ longest }
+{
+    let (before, after) = frame(x, ceiling);
+    pen.say(before);
+    wording::band(pen, x);
+    pen.say(after);
 }
 
 // ---- the report: each line after its meaning, which stands to the right of it
 
-// Ends a line.
-fn end(out: &mut [u8], pen: Pen) -> Pen {
-    say(out, pen, b"</tspan></text>\n")
-}
-
-// A line with one number.
-fn one(out: &mut [u8], pen: Pen, line: &[u8], n: usize) -> Pen {
-    let p = say(out, pen, line);
-    let p = put(out, p, b" ", n);
-    end(out, p)
-}
-
-fn list(out: &mut [u8], pen: Pen, t: &[u16]) -> Pen {
-    let mut p = pen;
-    let mut i = 0;
-    while i < t.len() {
-        p = put(out, p, b" ", words::wide(t[i]));
-        i += 1;
+// The numbers of a list, at most `most` of them, and how many more there are.
+fn list<T: Copy + Into<usize>>(pen: &mut Pen, t: &[T], most: usize) {
+    for n in t.iter().take(most) {
+        pen.put(b" ", (*n).into());
     }
-    p
-}
-
-// The first numbers of a list, at most `most` of them, and how many more there are.
-fn list_some(out: &mut [u8], pen: Pen, t: &[u16], most: usize) -> Pen {
-    if t.len() <= most {
-        return list(out, pen, t);
+    if most < t.len() {
+        pen.put(b" &#8230; ", t.len() - most);
+        pen.say(b" more");
     }
-    let p = list(out, pen, &t[0..most]);
-    let p = put(out, p, b" &#8230; ", t.len() - most);
-    say(out, p, b" more")
 }
 
 // A line with the first numbers of a list.
-fn some(out: &mut [u8], pen: Pen, line: &[u8], t: &[u16], most: usize) -> Pen {
-    let p = say(out, pen, line);
-    let p = list_some(out, p, t, most);
-    end(out, p)
+fn line<T: Copy + Into<usize>>(pen: &mut Pen, head: &[u8], t: &[T], most: usize) {
+    pen.say(head);
+    list(pen, t, most);
+    pen.say(b"</tspan></text>\n");
 }
 
 // A line has room for six lengths of four digits; and for every weighed list, since each of its lengths is less than half of the one before.
-fn patterns(out: &mut [u8], pen: Pen, cover_lens: &[u16], weighed_lens: &[u16], r: Numbers) -> Pen {
-    let normal = [r.k1, r.k2, r.k];
-    let best = [r.best, r.count];
-    let p = some(
-        out,
+fn patterns(pen: &mut Pen, r: &Findings) {
+    line(
         pen,
         b"<text class='note' x='660' y='712'>length that repeats, readings left over, times</text>
 <text class='report' x='40' y='712'>normal<tspan x='144'>",
-        &normal,
+        &[r.normal.k1, r.normal.k2, r.normal.k],
         3,
     );
-    let p = some(
-        out,
-        p,
+    line(
+        pen,
         b"<text class='note' x='660' y='740'>lengths of patterns that cover the whole log</text>
 <text class='report' x='40' y='740'>covers<tspan x='144'>",
-        cover_lens,
+        r.covers,
         6,
     );
-    let p = some(
-        out,
-        p,
+    line(
+        pen,
         b"<text class='note' x='660' y='768'>length of the best pattern, readings it covers</text>
 <text class='report' x='40' y='768'>best<tspan x='144'>",
-        &best,
+        &[r.best, r.count],
         2,
     );
-    some(
-        out,
-        p,
+    line(
+        pen,
         b"<text class='note' x='660' y='796'>lengths weighed against it, longest first</text>
 <text class='report' x='40' y='796'>weighed<tspan x='144'>",
-        weighed_lens,
+        r.weighed,
         words::WEIGHED_PLACES,
-    )
+    );
 }
 
-pub fn report(
-    out: &mut [u8],
-    pen: Pen,
-    n: usize,
-    cover_lens: &[u16],
-    weighed_lens: &[u16],
-    r: Numbers,
-) -> Pen {
-    let p = one(
-        out,
+// The report of a log of n readings.
+pub fn report(pen: &mut Pen, n: usize, r: &Findings) {
+    line(
         pen,
         b"<text class='note' x='660' y='684'>readings in the log</text>
 <text class='report' x='40' y='684'>log<tspan x='144'>",
-        n,
+        &[n],
+        1,
     );
-    let p = patterns(out, p, cover_lens, weighed_lens, r);
-    let c = r.ceiling;
-    let p = one(
-        out,
-        p,
+    patterns(pen, r);
+    line(
+        pen,
         b"<text class='note' x='660' y='824'>readings at 2000 ppm or above</text>
 <text class='report' x='40' y='824'>ceiling<tspan x='144'>",
-        words::wide(c.ceiling),
+        &[r.ceiling.ceiling],
+        1,
     );
-    let p = put(
-        out,
-        p,
+    pen.put(
         b"<text class='note' x='660' y='852'>1 if the last ",
         ceilings::RECENT,
     );
-    one(
-        out,
-        p,
+    line(
+        pen,
         b", or all if fewer, are at 2000</text>
 <text class='report' x='40' y='852'>held<tspan x='144'>",
-        c.held as usize,
-    )
+        &[r.ceiling.held],
+        1,
+    );
 }

@@ -1,4 +1,3 @@
 -- The laws, each file over those above it.
-pub mod Agreements
+pub mod Parts
 pub mod Reaching
-pub mod Runs

@@ -1,14 +1,5 @@
 -- How far the occurrences reach, and the marks that follow from it. Each premise stands as the code's tests give it. Assumes nothing.
-use mathlib.Core.Bool.{Bool, true, false, true≢false}
-use mathlib.Core.Path.{◌≡◌, refl, sym, ◌∙◌}
-use mathlib.Core.List.{List}
-use mathlib.Core.Logic.{inl, inr, ⊎_elim}
-use Prim.Native.Nat.{ℕ, suc, ◌+◌, ◌≤◌, ◌<◌}
-use native.Mathlib.Omega.{arith}
-use native.Mathlib.Nat.{eq-or-lt_of_le}
-use lib.Dec.{eqb, leb, ltb}
-use lib.ListN.{length}
-use borrow.Author.Tests.{lt-ltb, ltb-true, leb-true}
+use Rattle.std.proofs.Common.{true, false, true≢false, ◌≡◌, refl, sym, ◌∙◌, List, inl, ⊎_elim, ℕ, suc, ◌+◌, ◌≤◌, ◌<◌, arith, eq-or-lt_of_le, eqb, leb, ltb, length, lt-ltb, ltb-true, leb-true}
 use Rattle.words.specs.Words.{occurs, inside}
 use Rattle.words.proofs.Tests.{not_passed, and_left, and_right, and_both, and3}
 use Rattle.words.proofs.Search.{any_some, some_any}
@@ -32,48 +23,39 @@ module _ (x : List ℕ) (q p : ℕ) where
 pub reaches_none : (x : List ℕ) (q : ℕ) → Reaches x q 0 0
 reaches_none x q = record { most = λ j h s. omega arith; some = inl refl }
 
-module _ (x : List ℕ) (q p reach : ℕ) (r : Reaches x q p reach) (b : Bool) (e : b ≡ starts x q p) where
-  -- a start
-  pub start_fits : b ≡ true → p + q ≤ length x
+-- a start
+module _ (x : List ℕ) (q p : ℕ) (t : starts x q p ≡ true) where
+  pub start_fits : p + q ≤ length x
   unfolding starts
-  start_fits t = leb-true (p + q) (length x) (and_left _ _ (sym e ∙ t))
+  start_fits = leb-true (p + q) (length x) (and_left _ _ t)
 
-  pub start_marked : b ≡ true → 2 ≡ mark_of q x p
+  pub start_marked : 2 ≡ mark_of q x p
   unfolding mark_of
-  start_marked t = rw (← e, t)
+  start_marked = rw t
 
-  pub start_reaches : b ≡ true → Reaches x q (p + 1) (p + q)
-  start_reaches t = record { most = λ j h s. omega arith; some = inr (p, omega arith, sym e ∙ t, refl) }
+-- no start
+module _ (x : List ℕ) (q p reach : ℕ) (r : Reaches x q p reach) (t : starts x q p ≡ false) where
+  before : (j : ℕ) → j < suc p → starts x q j ≡ true → j < p
+  before j h s =
+      ⊎_elim
+      (λ (z : j ≡ p). absurd (true≢false (sym (rw z at s) ∙ t)))
+      (λ (l : j < p). l)
+      (eq-or-lt_of_le (omega arith))
 
-  -- no start
-  module _ (t : b ≡ false) where
-    before : (j : ℕ) → j < suc p → starts x q j ≡ true → j < p
-    before j h s =
-        ⊎_elim
-        (λ (z : j ≡ p). absurd (true≢false (sym (rw z at s) ∙ sym e ∙ t)))
-        (λ (l : j < p). l)
-        (eq-or-lt_of_le (omega arith))
+  covered : p < reach → inside eqb x (length x) q p ≡ true
+  covered h = ⊎_elim (λ z. absurd (omega arith)) (λ w. start_inside x q p w.0 (omega (arith, w.1)) (omega (arith, w.3)) w.2) r.some
 
-    pub still_reaches : Reaches x q (p + 1) reach
-    still_reaches = record {
-      most = λ j h s. r.most j (before j (omega arith) s) s;
-      some = ⊎_elim (λ z. inl z) (λ w. inr (w.0, omega (arith, w.1), w.2, w.3)) r.some;
-    }
+  uncovered : reach ≤ p → inside eqb x (length x) q p ≡ false
+  uncovered h =
+      not_passed _
+      (λ i.
+      let w = inside_start x q p i in
+      omega (arith, r.most w.0 (before w.0 w.1 w.3) w.3, w.2))
 
-    covered : p < reach → inside eqb x (length x) q p ≡ true
-    covered h = ⊎_elim (λ z. absurd (omega arith)) (λ w. start_inside x q p w.0 (omega (arith, w.1)) (omega (arith, w.3)) w.2) r.some
+  pub covered_marked : p < reach → 1 ≡ mark_of q x p
+  unfolding mark_of
+  covered_marked h = rw (t, covered h)
 
-    uncovered : reach ≤ p → inside eqb x (length x) q p ≡ false
-    uncovered h =
-        not_passed _
-        (λ i.
-        let w = inside_start x q p i in
-        omega (arith, r.most w.0 (before w.0 w.1 w.3) w.3, w.2))
-
-    pub covered_marked : p < reach → 1 ≡ mark_of q x p
-    unfolding mark_of
-    covered_marked h = rw (← e, t, covered h)
-
-    pub uncovered_marked : reach ≤ p → 0 ≡ mark_of q x p
-    unfolding mark_of
-    uncovered_marked h = rw (← e, t, uncovered h)
+  pub uncovered_marked : reach ≤ p → 0 ≡ mark_of q x p
+  unfolding mark_of
+  uncovered_marked h = rw (t, uncovered h)

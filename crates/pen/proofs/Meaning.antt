@@ -1,22 +1,16 @@
 -- What the contracts say in words: a piece that fits stands behind the text, and one that does not changes nothing but the pen, for good. Assumes nothing.
-use mathlib.Core.Bool.{true, false, cond, true≢false}
-use mathlib.Core.Path.{◌≡◌, refl, sym, ap, ◌∙◌}
-use mathlib.Core.List.{List, [], ◌++◌}
-use mathlib.Core.Logic.{◌↔◌}
-use Prim.Native.Nat.{ℕ, ◌+◌, ◌≤◌}
-use native.Mathlib.Omega.{arith}
-use lib.Dec.{leb}
-use lib.ListN.{length, take, length-append}
-use lib.Seq.{take-paste, take-length}
-use borrow.Author.Tests.{le-leb, leb-true}
+use Rattle.std.proofs.Common.{true, false, cond, true≢false, ◌≡◌, refl, sym, ap, ◌∙◌, List, [], ◌++◌, ◌↔◌, ℕ, ◌+◌, ◌≤◌, arith, leb, length, take, length-append, le-leb, leb-true, w64, Fits}
+use Rattle.std.proofs.Math.Seq.{take-paste, take-length}
+use Rattle.io.specs.Digits as Io
 use Rattle.words.proofs.Tests.{by_test, not_passed, both_ways, and_left, and_right, and_both}
 use Rattle.lines.specs.Text.{decimal, Put}
-use Rattle.lines.proofs.Texts.{put_put}
+use Rattle.lines.proofs.Texts.{put_put, decimal_is}
+use Rattle.pen.specs.declared.Place.{Place}
 use Rattle.pen.specs.declared.Pen.{Pen}
-use Rattle.pen.specs.Pens.{takes, pen_after, out_after, pen_after_number, out_after_number, text_of, Said}
+use Rattle.pen.specs.Pens.{takes, pen_after, out_after, pen_after_number, out_after_number, text_of, Said, Wrote}
 use Rattle.pen.proofs.Pieces.{taken_room, out_length}
 
-module _ (out : List ℕ) (p : Pen) (piece : List ℕ) where
+module _ (out : List ℕ) (p : Place) (piece : List ℕ) where
   -- the pen tells which it was
   fits_is : (pen_after (length out) p piece).fits ≡ takes (length out) p (length piece)
   unfolding pen_after
@@ -39,28 +33,28 @@ module _ (out : List ℕ) (p : Pen) (piece : List ℕ) where
   left_out f = rw (sym fits_is ∙ f)
 
 -- and stays so
-pub left_for_good : (room : ℕ) (p : Pen) (piece : List ℕ) → p.fits ≡ false → (pen_after room p piece).fits ≡ false
+pub left_for_good : (room : ℕ) (p : Place) (piece : List ℕ) → p.fits ≡ false → (pen_after room p piece).fits ≡ false
 unfolding pen_after takes
 left_for_good room p piece f = rw f (by_test (leb (p.at + length piece) room) (λ t. rw t) (λ t. rw t))
 
 -- one piece, one text behind another, and a piece with a number
-pub said_piece : (out : List ℕ) (p : Pen) (piece : List ℕ) {out' : List ℕ} {r : Pen} → r ≡ pen_after (length out) p piece → out' ≡ out_after out p piece
+pub said_piece : (out : List ℕ) (p : Place) (piece : List ℕ) {out' : List ℕ} {r : Place} → r ≡ pen_after (length out) p piece → out' ≡ out_after out p piece
     → Said out p piece out' r
 said_piece out p piece e d = rw (e, d) (record { kept = out_length out p piece; fits = fits_is out p piece; put = put_behind out p piece })
 
 -- a text of n bytes is taken
-pub record Taken (room : ℕ) (p : Pen) (n : ℕ) : Type 0 where
+pub record Taken (room : ℕ) (p : Place) (n : ℕ) : Type 0 where
   pub within : p.at + n ≤ room
   pub fits : p.fits ≡ true
 
-pub takes_iff : (room : ℕ) (p : Pen) (n : ℕ) → (takes room p n ≡ true) ↔ Taken room p n
+pub takes_iff : (room : ℕ) (p : Place) (n : ℕ) → (takes room p n ≡ true) ↔ Taken room p n
 unfolding takes
 takes_iff room p n = (
   λ t. record { within = leb-true (p.at + n) room (and_left _ _ t); fits = and_right (leb (p.at + n) room) p.fits t },
   λ k. and_both _ _ (le-leb (p.at + n) room k.within) k.fits,
 )
 
-module _ {out s mid t out' : List ℕ} {p q r : Pen} (a : Said out p s mid q) (b : Said mid q t out' r) where
+module _ {out s mid t out' : List ℕ} {p q r : Place} (a : Said out p s mid q) (b : Said mid q t out' r) where
   sizes : length (s ++ t) ≡ length s + length t
   sizes = length-append s t
 
@@ -86,7 +80,7 @@ module _ {out s mid t out' : List ℕ} {p q r : Pen} (a : Said out p s mid q) (b
     put = λ f. put_put (a.put (both_taken f).0) (b.put f);
   }
 
-pub said_number : (out : List ℕ) (p : Pen) (piece : List ℕ) (n : ℕ) {out' : List ℕ} {r : Pen} → r ≡ pen_after_number (length out) p piece n
+pub said_number : (out : List ℕ) (p : Place) (piece : List ℕ) (n : ℕ) {out' : List ℕ} {r : Place} → r ≡ pen_after_number (length out) p piece n
     → out' ≡ out_after_number out p piece n → Said out p (piece ++ decimal n) out' r
 unfolding pen_after_number out_after_number
 said_number out p piece n e d =
@@ -94,8 +88,17 @@ said_number out p piece n e d =
     let mid = out_after out p piece in
     said_said (said_piece out p piece refl refl) (said_piece mid named (decimal n) (e ∙ ap (λ (m : ℕ). pen_after m named (decimal n)) (sym (out_length out p piece))) d)
 
+-- the same of a pen
+pub wrote_wrote : {p q r : Pen} {s t : List ℕ} → Wrote p s q → Wrote q t r → Wrote p (s ++ t) r
+wrote_wrote a b = record { buffer = b.buffer ∙ a.buffer; said = said_said a.said b.said }
+
+-- .. and of a piece with the digits that `io` makes
+pub wrote_number : {k n : ℕ} {s piece : List ℕ} {p q r : Pen} → s ≡ Io.last_digits 10 k n → Io.IsDigitCount 10 1 n k → Fits w64 n
+    → Wrote p piece q → Wrote q s r → Wrote p (piece ++ decimal n) r
+wrote_number e f w a b = wrote_wrote a (rw (decimal_is e f w) at b)
+
 -- what is written in the end, and nothing where the text does not fit
-pub said_text : {out text out' : List ℕ} {p r : Pen} → Said out p text out' r
+pub said_text : {out text out' : List ℕ} {p r : Place} → Said out p text out' r
     → text_of out' r ≡ cond (takes (length out) p (length text)) (take p.at out ++ text) []
 unfolding text_of
 said_text {out} {text} {out'} {p} {r} s = by_test (takes (length out) p (length text))

@@ -7,22 +7,37 @@
 
 ghost use Rattle.std.specs.Prelude.{◌<◌, ◌≤◌, length};
 
-use pen::{Pen, put, say};
+use pen::Pen;
 
-// Two numbers, each after a piece.
-pub fn put_two(out: &mut [u8], pen: Pen, before: &[u8], m: usize, between: &[u8], n: usize) -> Pen {
-    let p = put(out, pen, before, m);
-    put(out, p, between, n)
+// A strip across the plot, from one height down to another.
+#[derive(Clone, Copy)]
+pub struct Strip {
+    pub top: usize,
+    pub bottom: usize,
 }
 
+const LANES: [Strip; 2] = [
+    Strip {
+        top: 34000,
+        bottom: 35400,
+    },
+    Strip {
+        top: 35600,
+        bottom: 37000,
+    },
+];
+
+const MISSED: Strip = Strip {
+    top: 38400,
+    bottom: 39600,
+};
+
 // Where the reading after the first k of n begins.
+#[tactic(auto, using(crate::proofs::Places::part_of_width))]
 fn across(k: usize, n: usize) -> usize
     ensures { result ≤ 100000 }
 {
-    if n <= k {
-        return 100000;
-    }
-    if words::LONGEST < k {
+    if n <= k || words::LONGEST < k {
         return 100000;
     }
     k * 100000 / n
@@ -30,161 +45,93 @@ fn across(k: usize, n: usize) -> usize
 
 // How far down a reading lies.
 pub fn down(symbol: u8) -> usize {
-    if words::CEILING <= symbol {
-        return 3000;
-    }
-    33000 - (symbol as usize) * 1500
+    33000 - usize::from(symbol.min(words::CEILING)) * 1500
 }
 
 // A box around the readings after the first a, up to the first e of n, if there are any.
-fn enclose(
-    out: &mut [u8],
-    pen: Pen,
-    a: usize,
-    e: usize,
-    n: usize,
-    top: usize,
-    bottom: usize,
-) -> Pen {
+fn enclose(pen: &mut Pen, a: usize, e: usize, n: usize, strip: Strip) {
     if e <= a {
-        return pen;
+        return;
     }
     let left = across(a, n);
-    let p = put_two(out, pen, b"M", left, b" ", top);
-    let p = put_two(out, p, b"H", across(e, n), b"V", bottom);
-    let p = put(out, p, b"H", left);
-    say(out, p, b"z")
+    pen.put(b"M", left);
+    pen.put(b" ", strip.top);
+    pen.put(b"H", across(e, n));
+    pen.put(b"V", strip.bottom);
+    pen.put(b"H", left);
+    pen.say(b"z");
 }
 
-// A box around each run of v. After a run comes another reading, or none.
-pub fn enclose_runs(out: &mut [u8], pen: Pen, x: &[u8], v: u8, top: usize, bottom: usize) -> Pen {
-    let mut p = pen;
+// A box around each run of v. After a run comes another reading, or none: the loop goes from run to run, and counts no index.
+pub fn enclose_runs(pen: &mut Pen, x: &[u8], v: u8, strip: Strip) {
     let mut a = 0;
     while a < x.len() {
         let e = marks::end_of_run(x, v, a);
-        p = enclose(out, p, a, e, x.len(), top, bottom);
+        enclose(pen, a, e, x.len(), strip);
         a = e + 1;
     }
-    p
 }
 
-// The step after the first k readings, if the next one differs.
-fn step(out: &mut [u8], pen: Pen, x: &[u8], k: usize) -> Pen
-    requires { (0 < k) × (k < length x.now) }
-{
-    if x[k] == x[k - 1] {
-        return pen;
+// The readings as steps: one wherever a reading differs from that before it.
+pub fn steps(pen: &mut Pen, x: &[u8]) {
+    for (k, pair) in (1..x.len()).zip(x.windows(2)) {
+        if let [before, symbol] = pair
+            && before != symbol
+        {
+            pen.put(b"H", across(k, x.len()));
+            pen.put(b"V", down(*symbol));
+        }
     }
-    put_two(out, pen, b"H", across(k, x.len()), b"V", down(x[k]))
-}
-
-// The readings as steps.
-pub fn steps(out: &mut [u8], pen: Pen, x: &[u8]) -> Pen {
-    let mut p = pen;
-    let mut k = 1;
-    while k < x.len() {
-        p = step(out, p, x, k);
-        k += 1;
-    }
-    p
 }
 
 // The occurrences of the first q readings, in two lanes by turns: the best pattern has no proper cover, so no three of its occurrences share a reading.
-pub fn occurrences(out: &mut [u8], pen: Pen, marks: &[u8], q: usize) -> Pen {
-    let mut p = pen;
-    let mut lane = 0;
-    let mut a = 0;
-    while a < marks.len() {
-        p = occurrence(out, p, marks, q, a, lane);
-        lane = next_lane(marks[a], lane);
-        a += 1;
+pub fn occurrences(pen: &mut Pen, marks: &[u8], q: usize) {
+    let starts = marks
+        .iter()
+        .enumerate()
+        .filter(|(_, mark)| **mark == marks::START);
+    for ((a, _), lane) in starts.zip(LANES.iter().cycle()) {
+        enclose(pen, a, a.wrapping_add(q), marks.len(), *lane);
     }
-    p
-}
-
-// The occurrence that starts after the first a readings, if one does.
-fn occurrence(out: &mut [u8], pen: Pen, marks: &[u8], q: usize, a: usize, lane: usize) -> Pen
-    requires { a < length marks.now }
-{
-    if marks[a] != marks::START {
-        return pen;
-    }
-    let end = std::num::wrapping_add_usize(a, q);
-    let top = 34000 + lane % 2 * 1600;
-    enclose(out, pen, a, end, marks.len(), top, top + 1400)
-}
-
-// The lane of the next occurrence, after a reading with this mark.
-fn next_lane(mark: u8, lane: usize) -> usize {
-    if mark != marks::START {
-        return lane;
-    }
-    1 - lane % 2
 }
 
 // The readings outside every occurrence.
-pub fn gaps(out: &mut [u8], pen: Pen, marks: &[u8]) -> Pen {
-    enclose_runs(out, pen, marks, marks::OUTSIDE, 38400, 39600)
+pub fn gaps(pen: &mut Pen, marks: &[u8]) {
+    enclose_runs(pen, marks, marks::OUTSIDE, MISSED);
 }
 
 // How many readings there are from one tick of the axis to the next: at most ten ticks.
 fn tick(n: usize) -> usize
     ensures { result ≤ 500 }
 {
-    if n <= 10 {
-        return 1;
+    match n {
+        0..=10 => 1,
+        11..=20 => 2,
+        21..=50 => 5,
+        51..=100 => 10,
+        101..=200 => 20,
+        201..=500 => 50,
+        501..=1000 => 100,
+        1001..=2000 => 200,
+        _ => 500,
     }
-    if n <= 20 {
-        return 2;
-    }
-    if n <= 50 {
-        return 5;
-    }
-    if n <= 100 {
-        return 10;
-    }
-    if n <= 200 {
-        return 20;
-    }
-    if n <= 500 {
-        return 50;
-    }
-    if n <= 1000 {
-        return 100;
-    }
-    if n <= 2000 {
-        return 200;
-    }
-    500
 }
 
 // A tick and its number under the middle of reading k of n.
-fn label(out: &mut [u8], pen: Pen, k: usize, n: usize) -> Pen {
+fn label(pen: &mut Pen, k: usize, n: usize) {
     if k == 0 || n < k {
-        return pen;
+        return;
     }
     let at = (across(k - 1, n) + across(k, n)) / 2;
-    let p = put_two(
-        out,
-        pen,
-        b"<path class='tick' d='M",
-        at,
-        b" 40400v700'/><text x='",
-        at,
-    );
-    let p = put(out, p, b"' y='43000'>", k);
-    say(out, p, b"</text>\n")
+    pen.put(b"<path class='tick' d='M", at);
+    pen.put(b" 40400v700'/><text x='", at);
+    pen.put(b"' y='43000'>", k);
+    pen.say(b"</text>\n");
 }
 
-pub fn labels(out: &mut [u8], pen: Pen, n: usize) -> Pen {
+pub fn labels(pen: &mut Pen, n: usize) {
     let t = tick(n);
-    let mut p = pen;
-    let mut k = 0;
-    let mut i: usize = 0;
-    while i < 10 {
-        k += t;
-        p = label(out, p, k, n);
-        i += 1;
+    for i in 1..11 {
+        label(pen, i * t, n);
     }
-    p
 }

@@ -1,13 +1,5 @@
 -- What the band tells of a log: its run is the one that ends the log, and HELD stands exactly over a run of at least 60 readings, or of all. Assumes nothing.
-use mathlib.Core.Bool.{Bool, true, false}
-use mathlib.Core.Path.{◌≡◌, sym}
-use mathlib.Core.List.{List, ◌++◌}
-use mathlib.Core.Logic.{◌⊎◌, inl, inr, ⊎_elim, ◌↔◌}
-use Prim.Native.Nat.{ℕ, suc, ◌+◌, ◌-◌, ◌≤◌, ◌<◌}
-use native.Mathlib.Nat.{eq-or-lt_of_le}
-use native.Mathlib.Omega.{arith}
-use lib.ListN.{length, get_or, drop}
-use borrow.Author.Tests.{eq-eqb, ne_eqb}
+use Rattle.std.proofs.Common.{Bool, true, false, ◌≡◌, sym, List, ◌++◌, ◌⊎◌, inl, inr, ⊎_elim, ◌↔◌, ℕ, suc, ◌+◌, ◌-◌, ◌≤◌, ◌<◌, eq-or-lt_of_le, arith, length, get_or, drop, eq-eqb, ne_eqb}
 use Rattle.words.specs.PlantFile.{ceiling_symbol}
 use Rattle.words.proofs.Tests.{le_or_lt}
 use Rattle.words.proofs.Search.{greatest_lt, greatest_passes, greatest_most, greatest_is, how_many_hit}

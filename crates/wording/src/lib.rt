@@ -3,65 +3,70 @@
 
 ghost use Rattle.std.specs.Prelude.{◌≤◌, length};
 ghost use Rattle.words.specs.Refusals.{longest};
-ghost use Rattle.pen.specs.Pens.{Said};
+ghost use Rattle.pen.specs.Pens.{Wrote};
 ghost use Rattle.wording.specs.Wording as Wording;
 
 use ceilings::Ceiling;
-use pen::{Pen, put, say};
+use pen::Pen;
 
-pub fn readings(out: &mut [u8], pen: Pen, n: usize) -> Pen
-    ensures { Said out.old pen (Wording.readings n) out.new result }
+pub fn readings(pen: &mut Pen, n: usize)
+    ensures { Wrote pen.old (Wording.readings n) pen.new }
 {
     if n == 1 {
-        return say(out, pen, b" reading");
+        pen.say(b" reading");
+    } else {
+        pen.say(b" readings");
     }
-    say(out, pen, b" readings")
 }
 
-fn kind(out: &mut [u8], pen: Pen, held: u8) -> Pen
-    ensures { Said out.old pen (Wording.kind held) out.new result }
+fn kind(pen: &mut Pen, held: u8)
+    ensures { Wrote pen.old (Wording.kind held) pen.new }
 {
     if held == 1 {
-        return say(out, pen, b"HELD AT CEILING: ");
+        pen.say(b"HELD AT CEILING: ");
+    } else {
+        pen.say(b"ENDS AT CEILING: ");
     }
-    say(out, pen, b"ENDS AT CEILING: ")
 }
 
-fn last_of(out: &mut [u8], pen: Pen, n: usize, last: usize) -> Pen
-    ensures { Said out.old pen (Wording.last_of n last) out.new result }
+fn last_of(pen: &mut Pen, n: usize, last: usize)
+    ensures { Wrote pen.old (Wording.last_of n last) pen.new }
 {
     if last == n {
-        return put(out, pen, b"", last);
+        pen.put(b"", last);
+    } else {
+        pen.put(b"the last ", last);
     }
-    put(out, pen, b"the last ", last)
 }
 
-fn standing(out: &mut [u8], pen: Pen, n: usize, c: Ceiling, last: usize) -> Pen
-    ensures { Said out.old pen (Wording.standing n c last) out.new result }
+fn standing(pen: &mut Pen, n: usize, c: Ceiling, last: usize)
+    ensures { Wrote pen.old (Wording.standing n c last) pen.new }
 {
     if last == 0 {
-        return put(out, pen, b"REACHED CEILING: ", c.ceiling as usize);
+        pen.put(b"REACHED CEILING: ", usize::from(c.ceiling));
+    } else {
+        kind(pen, c.held);
+        last_of(pen, n, last);
     }
-    let p = kind(out, pen, c.held);
-    last_of(out, p, n, last)
 }
 
-fn told(out: &mut [u8], pen: Pen, n: usize, c: Ceiling, last: usize) -> Pen
-    ensures { Said out.old pen (Wording.told n c last) out.new result }
+fn told(pen: &mut Pen, n: usize, c: Ceiling, last: usize)
+    ensures { Wrote pen.old (Wording.told n c last) pen.new }
 {
     if c.ceiling == 0 {
-        return say(out, pen, b"No reading at the ceiling, 2000 ppm.");
+        pen.say(b"No reading at the ceiling, 2000 ppm.");
+    } else {
+        standing(pen, n, c, last);
+        pen.put(b" of ", n);
+        readings(pen, n);
     }
-    let p = standing(out, pen, n, c, last);
-    let p = put(out, p, b" of ", n);
-    readings(out, p, n)
 }
 
 // The words of the band under a picture's title.
-pub fn band(out: &mut [u8], pen: Pen, x: &[u8]) -> Pen
+pub fn band(pen: &mut Pen, x: &[u8])
     requires { length x.now ≤ longest }
-    ensures { Said out.old pen (Wording.band x.now) out.new result }
+    ensures { Wrote pen.old (Wording.band x.now) pen.new }
 {
     let last = marks::last_run(x, words::CEILING);
-    told(out, pen, x.len(), ceilings::of(x), last)
+    told(pen, x.len(), ceilings::of(x), last);
 }

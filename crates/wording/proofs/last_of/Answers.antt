@@ -1,10 +1,9 @@
 -- `wording::last_of` meets its contract. Assumes nothing.
-use Rattle.pen.proofs.Meaning.{said_number}
-use Rattle.wording.proofs.Steps.{pick_first, pick_second, said_bare}
+use Rattle.wording.proofs.Steps.{wrote_first, wrote_second}
 use Rattle.wording.proofs.last_of.Goals as goal
 
 pub returns-then-last-n : goal.returns-then-last-n
-returns-then-last-n c = search (pick_first, said_bare)
+returns-then-last-n c = search wrote_first
 
-pub returns : goal.returns
-returns c = search (pick_second, said_number)
+pub returns-else-last-n : goal.returns-else-last-n
+returns-else-last-n c = search wrote_second

@@ -1,10 +1,9 @@
 -- `wording::readings` meets its contract. Assumes nothing.
-use Rattle.pen.proofs.Meaning.{said_piece}
-use Rattle.wording.proofs.Steps.{pick_first, pick_second}
+use Rattle.wording.proofs.Steps.{wrote_first, wrote_second}
 use Rattle.wording.proofs.readings.Goals as goal
 
 pub returns-then-n-eq1 : goal.returns-then-n-eq1
-returns-then-n-eq1 c = search (pick_first, said_piece)
+returns-then-n-eq1 c = search wrote_first
 
-pub returns : goal.returns
-returns c = search (pick_second, said_piece)
+pub returns-else-n-eq1 : goal.returns-else-n-eq1
+returns-else-n-eq1 c = search wrote_second

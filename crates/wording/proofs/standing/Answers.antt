@@ -1,10 +1,10 @@
 -- `wording::standing` meets its contract. Assumes nothing.
-use Rattle.pen.proofs.Meaning.{said_number, said_said}
-use Rattle.wording.proofs.Steps.{pick_first, pick_second}
+use Rattle.pen.proofs.Meaning.{wrote_wrote}
+use Rattle.wording.proofs.Steps.{wrote_first, wrote_second}
 use Rattle.wording.proofs.standing.Goals as goal
 
 pub returns-then-last-eq0 : goal.returns-then-last-eq0
-returns-then-last-eq0 c = search (pick_first, said_number)
+returns-then-last-eq0 c = wrote_first _ _ _ _ c.if-last-eq0.true (rw c.from.ensures at c.put.ensures.wrote)
 
-pub returns : goal.returns
-returns c = search (pick_second, said_said)
+pub returns-else-last-eq0 : goal.returns-else-last-eq0
+returns-else-last-eq0 c = search (wrote_second, wrote_wrote)
