@@ -8,16 +8,13 @@ use Rattle.words.proofs.Borders.{border_lt, border_step}
 use Rattle.words.proofs.Covers.{cover_lt}
 use Rattle.cover.specs.Tree.{Forest, Found, Blank, Ready}
 use Rattle.cover.proofs.Walk.{Walk, walk_start}
-use Rattle.cover.proofs.Tree.{Falling, fall_some, fall_below, fall_counted, fall_next, find_hit, find_next, find_short, jump_below, jump_falls, forest_first, count_fits, tree_grow}
+use Rattle.cover.proofs.Tree.{Falling, fall_some, fall_below, fall_counted, fall_next, find_hit, find_next, find_short, forest_first, count_fits, tree_grow}
 
 -- ---- `retire`
 
 module _ {x t up kids : List ℕ} {per j q : ℕ} (k : Filled cover_row x t j) (w : Falling x up kids per j q) (none : get_or kids q 0 ≡ 0) where
   pub retire_some : 1 ≤ q
   retire_some = fall_some w none
-
-  pub retire_row : q - 1 < length t
-  retire_row = omega (arith, k.inside, k.room, w.below, retire_some)
 
   module _ (r : ℕ) (e : r ≡ get_or t (q - 1) 0) where
     row : r ≡ cover eqb x q
@@ -49,12 +46,6 @@ module _ {x up kids : List ℕ} {j b q : ℕ} (f : Forest x up kids (j + 1 - b) 
     find_found z = record { forest = f; live = sym eu ∙ z; cover = find_hit f w at (sym eu ∙ z) }
 
     module _ (dead : u ≡ q → ⊥) where
-      pub find_inside : u < length up
-      find_inside = omega (arith, jump_below f w.below dead eu refl, w.below, f.inside, f.ups)
-
-      pub find_falls : (g : ℕ) → g ≡ get_or up u 0 → g < q
-      find_falls g eg = jump_falls f w.below dead eu eg
-
       pub find_shorter : Forest x (set up q (get_or up u 0)) kids (j + 1 - b) j 0
       find_shorter = find_short f w.below dead eu refl
 

@@ -1,5 +1,5 @@
 -- What each way through the normal form and the breakdown comes to, on plain lists and numbers. Assumes nothing.
-use Rattle.std.proofs.Common.{◌≡◌, refl, sym, ap, ◌∙◌, List, [], ◌∷◌, ◌++◌, append_assoc, append-nil, ⊎_elim, ℕ, suc, ◌+◌, ◌-◌, ◌*◌, ◌/◌, ◌%◌, ◌^◌, ◌≤◌, ◌<◌, mul-le-mul_right, mul_comm, mul_assoc, mod-lt, div-le_self, add-one, arith, pow_mono, eqb, length, get_or, set, replicate, length-append, w16, Fits}
+use Rattle.std.proofs.Common.{◌≡◌, refl, sym, ap, ◌∙◌, List, [], ◌∷◌, ◌++◌, append_assoc, append-nil, ⊎_elim, ℕ, suc, ◌+◌, ◌-◌, ◌*◌, ◌/◌, ◌%◌, ◌^◌, ◌≤◌, ◌<◌, mul-le-mul_right, mul_comm, mul_assoc, add-one, arith, pow_mono, eqb, length, get_or, set, replicate, length-append}
 use native.Mathlib.Nat.{pow-succ'}
 use Rattle.words.specs.declared.Part.{Part}
 use Rattle.words.specs.declared.Breakdown.{Breakdown}
@@ -29,12 +29,6 @@ module _ {x t : List ℕ} (h : Holds border_row x t) {i : ℕ} (some : 0 < i) (w
 
   pub period_some : 0 < i - b
   period_some = omega (arith, below)
-
-  pub remainder_fits : length x ≤ longest → Fits w16 (i % (i - b))
-  remainder_fits s = omega (arith, below, mod-lt i {m = i - b} (omega (arith, below)))
-
-  pub quotient_fits : length x ≤ longest → Fits w16 (i / (i - b))
-  quotient_fits s = omega (arith, div-le_self i (i - b))
 
   pub normal_is : record { len = i; k1 = i - b; k2 = i % (i - b); k = i / (i - b) } ≡ normal eqb x i
   unfolding normal

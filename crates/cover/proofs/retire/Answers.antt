@@ -1,7 +1,7 @@
 -- `cover::retire` meets its contract. The loop's invariant is `Falling`, its measure q. Assumes nothing.
 use Rattle.std.proofs.Common.{rules}
 use Rattle.cover.proofs.Tree.{fall_start, fall_done}
-use Rattle.cover.proofs.Steps.{retire_some, retire_row, retire_falls, retire_inside, retire_counted, retire_next}
+use Rattle.cover.proofs.Steps.{retire_some, retire_falls, retire_inside, retire_counted, retire_next}
 use Rattle.cover.proofs.retire.Goals as goal
 
 pub loop-kids-init : goal.loop-kids-init
@@ -9,9 +9,6 @@ loop-kids-init c = search fall_start
 
 pub overflow_sub-c : goal.overflow_sub-c
 overflow_sub-c c = search retire_some
-
-pub bounds-t-q : goal.bounds-t-q
-bounds-t-q c = search retire_row
 
 pub bounds-kids-q-in-loop-kids : goal.bounds-kids-q-in-loop-kids
 bounds-kids-q-in-loop-kids c = search retire_inside
