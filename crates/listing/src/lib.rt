@@ -4,6 +4,9 @@
 
 ghost use Rattle.std.specs.Prelude.{◌≤◌, length};
 
+use lines::Text;
+use refusals::Refusal;
+
 // The entries of each table, which bound the logs that are printed whole, and the room for a line of them all.
 pub const ROWS: usize = 32;
 
@@ -15,20 +18,20 @@ fn say(rt: &HostRuntime, word: &[u8], t: &[u16]) -> bool
     requires { (length word.now ≤ 32) × (length t.now ≤ 32) }
 {
     let mut line = [0u8; LINE];
-    let end = lines::line(&mut line, 0, word, t);
-    output::write(rt, &line[0..end])
+    let mut text = Text::new(&mut line);
+    text.line(word, t);
+    output::write(rt, text.as_slice())
 }
 
 // The first n entries of t, where it has them and a line holds them.
 fn first(t: &[u16], n: usize) -> &[u16]
     ensures { length result.now ≤ 32 }
 {
-    if n <= ROWS {
-        if n <= t.len() {
-            return &t[0..n];
-        }
+    if n <= ROWS && n <= t.len() {
+        &t[..n]
+    } else {
+        &t[..0]
     }
-    &t[0..0]
 }
 
 fn say_first(rt: &HostRuntime, word: &[u8], t: &[u16], n: usize) -> bool
@@ -39,20 +42,14 @@ fn say_first(rt: &HostRuntime, word: &[u8], t: &[u16], n: usize) -> bool
 
 fn say_total(rt: &HostRuntime, n: u32) -> bool {
     let mut line = [0u8; LINE];
-    let end = lines::counted(&mut line, 0, b"total", n as usize);
-    output::write(rt, &line[0..end])
+    let mut text = Text::new(&mut line);
+    text.counted(b"total", n as usize);
+    output::write(rt, text.as_slice())
 }
 
 // The first n rows of the five columns.
-fn say_columns(
-    rt: &HostRuntime,
-    n: usize,
-    border: &[u16],
-    prefix: &[u16],
-    cover: &[u16],
-    best: &[u16],
-    count: &[u16],
-) -> bool {
+fn say_columns(rt: &HostRuntime, n: usize, columns: [&[u16]; 5]) -> bool {
+    let [border, prefix, cover, best, count] = columns;
     say_first(rt, b"border", border, n)
         && say_first(rt, b"prefix", prefix, n)
         && say_first(rt, b"cover", cover, n)
@@ -60,29 +57,27 @@ fn say_columns(
         && say_first(rt, b"count", count, n)
 }
 
-// ---- tables
+// A refusal's number.
+fn number(no: Refusal) -> u16 {
+    u16::from(u8::from(no))
+}
+
+// ---- tables: a refused call leaves them as they were
 
 pub fn tables(rt: &HostRuntime, x: &[u8]) -> bool {
-    let mut border = [0u16; ROWS];
-    let mut prefix = [0u16; ROWS];
-    let mut cover = [0u16; ROWS];
-    let mut best = [0u16; ROWS];
-    let mut count = [0u16; ROWS];
-    finder::border_table(x, &mut border);
-    finder::prefix_table(x, &mut prefix);
-    finder::cover_table(x, &mut cover);
-    let w = finder::enhanced_table(x, &mut best, &mut count);
-    say_columns(rt, x.len(), &border, &prefix, &cover, &best, &count) && say_total(rt, w.total)
+    let [mut border, mut prefix, mut cover, mut best, mut count] = [[0u16; ROWS]; 5];
+    let _ = finder::border_table(x, &mut border);
+    let _ = finder::prefix_table(x, &mut prefix);
+    let _ = finder::cover_table(x, &mut cover);
+    let total = finder::enhanced_table(x, &mut best, &mut count).unwrap_or(0);
+    say_columns(rt, x.len(), [&border, &prefix, &cover, &best, &count]) && say_total(rt, total)
 }
 
 // The left covers and left seeds.
 pub fn lefts(rt: &HostRuntime, x: &[u8]) -> bool {
-    let mut cover = [0u16; ROWS];
-    let mut count = [0u16; ROWS];
-    let mut seed = [0u16; ROWS];
-    let mut reach = [0u16; ROWS];
-    finder::left_covers(x, &mut cover, &mut count);
-    finder::left_seeds(x, &mut seed, &mut reach);
+    let [mut cover, mut count, mut seed, mut reach] = [[0u16; ROWS]; 4];
+    let _ = finder::left_covers(x, &mut cover, &mut count);
+    let _ = finder::left_seeds(x, &mut seed, &mut reach);
     let n = x.len();
     say_first(rt, b"left cover", &cover, n)
         && say_first(rt, b"left count", &count, n)
@@ -92,15 +87,11 @@ pub fn lefts(rt: &HostRuntime, x: &[u8]) -> bool {
 
 // A window of x, with all rows of tables that held 77 everywhere before.
 pub fn window(rt: &HostRuntime, x: &[u8], a: u16, m: u16) -> bool {
-    let mut border = [77u16; 12];
-    let mut prefix = [77u16; 12];
-    let mut cover = [77u16; 12];
-    let mut best = [77u16; 12];
-    let mut count = [77u16; 12];
-    let w = finder::window(
+    let [mut border, mut prefix, mut cover, mut best, mut count] = [[77u16; 12]; 5];
+    let total = finder::window(
         x,
-        words::wide(a),
-        words::wide(m),
+        usize::from(a),
+        usize::from(m),
         &mut border,
         &mut prefix,
         &mut cover,
@@ -108,43 +99,41 @@ pub fn window(rt: &HostRuntime, x: &[u8], a: u16, m: u16) -> bool {
         &mut count,
     );
     say(rt, b"window", &[a, m])
-        && say(rt, b"number", &[w.number as u16])
-        && say_columns(rt, 12, &border, &prefix, &cover, &best, &count)
-        && say_total(rt, w.total)
+        && say(rt, b"number", &[total.map_or_else(number, |_| 0)])
+        && say_columns(rt, 12, [&border, &prefix, &cover, &best, &count])
+        && say_total(rt, total.unwrap_or(0))
 }
 
 // ---- answers
 
 fn normal(rt: &HostRuntime, x: &[u8]) -> bool {
-    let f = finder::normal_form(x, x.len());
-    say(rt, b"normal", &[f.k1, f.k2, f.k])
+    let form = finder::normal_form(x, x.len()).map_or([0; 3], |f| [f.k1, f.k2, f.k]);
+    say(rt, b"normal", &form)
 }
 
 fn breakdown(rt: &HostRuntime, x: &[u8]) -> bool {
-    let b = finder::breakdown(x);
-    let parts = b.parts;
-    let mut t = [0u16; words::BREAKDOWN_PLACES];
-    let mut d = 0;
-    while d < words::BREAKDOWN_PLACES {
-        let p = parts[d];
-        t[d] = p.len;
-        d += 1;
+    match finder::breakdown(x) {
+        Ok(b) => say_first(
+            rt,
+            b"breakdown",
+            &b.parts.map(|p| p.len),
+            usize::from(b.used),
+        ),
+        Err(_) => say(rt, b"breakdown", &[]),
     }
-    say_first(rt, b"breakdown", &t, words::wide(b.used))
 }
 
 fn covers(rt: &HostRuntime, x: &[u8]) -> bool {
     let mut t = [0u16; ROWS];
-    let l = finder::cover_list(x, &mut t);
-    say_first(rt, b"covers", &t, words::wide(l.used))
+    let used = finder::cover_list(x, &mut t).map_or(0, usize::from);
+    say_first(rt, b"covers", &t, used)
 }
 
 // A cover test as a number: a refused one is ten and its number.
-fn told(answer: words::CoverTest) -> u16 {
+fn told(answer: Result<bool, Refusal>) -> u16 {
     match answer {
-        words::CoverTest::Yes => 1,
-        words::CoverTest::No => 0,
-        words::CoverTest::Refused(no) => 10 + no as u16,
+        Ok(yes) => u16::from(yes),
+        Err(no) => 10 + u16::from(u8::from(no)),
     }
 }
 
@@ -153,24 +142,23 @@ fn tests(rt: &HostRuntime, x: &[u8]) -> bool
     requires { length x.now ≤ 28 }
 {
     let mut t = [0u16; ROWS];
-    let mut q = 0;
-    while q < ROWS {
-        t[q] = told(finder::cover_test(x, x.len(), q));
-        q += 1;
+    for (q, test) in t.iter_mut().enumerate() {
+        *test = told(finder::cover_test(x, x.len(), q));
     }
     say_first(rt, b"tests", &t, x.len() + 2)
 }
 
 fn weighed(rt: &HostRuntime, x: &[u8]) -> bool {
-    let w = finder::weighed_list(x, x.len());
-    let lens = w.lens;
-    say_first(rt, b"weighed", &lens, words::wide(w.used)) && say(rt, b"limit", &[w.limit])
+    match finder::weighed_list(x, x.len()) {
+        Ok(w) => say_first(rt, b"weighed", &w.lens, usize::from(w.used))
+            && say(rt, b"limit", &[w.limit]),
+        Err(_) => say(rt, b"weighed", &[]) && say(rt, b"limit", &[0]),
+    }
 }
 
 fn pattern(rt: &HostRuntime, x: &[u8]) -> bool {
-    let no = finder::best_pattern_number(x);
-    if no != 0 {
-        return say(rt, b"pattern refused", &[no as u16]);
+    if let Err(no) = finder::pattern(x) {
+        return say(rt, b"pattern refused", &[number(no)]);
     }
     output::write(rt, b"pattern ")
         && output::write(rt, finder::best_pattern(x))
@@ -179,8 +167,11 @@ fn pattern(rt: &HostRuntime, x: &[u8]) -> bool {
 
 // The number, held and the ceiling.
 pub fn ceiling(rt: &HostRuntime, x: &[u8]) -> bool {
-    let c = finder::ceiling(x);
-    say(rt, b"ceiling", &[c.number as u16, c.held as u16, c.ceiling])
+    let answer = match finder::ceiling(x) {
+        Ok(c) => [0, u16::from(c.held), c.ceiling],
+        Err(no) => [number(no), 0, 0],
+    };
+    say(rt, b"ceiling", &answer)
 }
 
 pub fn answers(rt: &HostRuntime, x: &[u8]) -> bool

@@ -9,9 +9,9 @@ use trial_runs::{long, small};
 
 fn small_logs(t: &mut Tally) -> Result<(), Unwritten> {
     t.begin("all logs over 2 letters to 12, every call:")?;
-    small::logs(t, b"\x00\xff", 12, small::strange)?;
+    small::logs(t, b"\x00\xff", 12, small::held_strange)?;
     t.begin("all logs over 3 letters to 8, every call:")?;
-    small::logs(t, b"\x00\xff\x14", 8, small::strange)?;
+    small::logs(t, b"\x00\xff\x14", 8, small::held_strange)?;
     t.begin("all logs over 2 letters to 8, every call, tables that held small numbers:")?;
     small::logs(t, b"\x00\xff", 8, small::held_small)
 }

@@ -11,7 +11,11 @@ use trial_base::way::Case;
 use words::{BREAKDOWN_PLACES, Part, WEIGHED_PLACES};
 
 // Both refuse, with one number, or neither does and the answer is `right`.
-fn agree<T: Drop, F: FnOnce(T) -> bool>(got: Result<T, Refusal>, want: Result<(), No>, right: F) -> bool
+fn agree<T: Drop, F: FnOnce(T) -> bool>(
+    got: Result<T, Refusal>,
+    want: Result<(), No>,
+    right: F,
+) -> bool
     requires { F.IsAlwaysCallable right }
 {
     match (got, want) {
@@ -32,7 +36,11 @@ fn form(p: Part) -> Form {
 
 fn normal(x: &[u8], i: usize) -> bool {
     let want = second_no::prefix(x.len(), i);
-    agree(finder::normal_form(x, i), want, |f| form(f) == second::normal(x, i))
+    agree(
+        finder::normal_form(x, i),
+        want,
+        |f| form(f) == second::normal(x, i),
+    )
 }
 
 fn same_places(x: &[u8], i: usize, lens: [u16; WEIGHED_PLACES]) -> bool {
@@ -84,7 +92,11 @@ fn at_places(t: &mut Tally, c: Case) -> Result<(), Unwritten> {
 
 fn covers(x: &[u8], i: usize, q: usize) -> bool {
     let want = second_no::cover_test(x.len(), i, q);
-    agree(finder::cover_test(x, i, q), want, |yes| yes == second::covers(x, i, q))
+    agree(
+        finder::cover_test(x, i, q),
+        want,
+        |yes| yes == second::covers(x, i, q),
+    )
 }
 
 fn cover_test(t: &mut Tally, c: Case, i: usize, q: usize) -> Result<(), Unwritten> {
@@ -115,7 +127,10 @@ fn cover_tests(t: &mut Tally, c: Case) -> Result<(), Unwritten> {
 }
 
 fn same_parts(x: &[u8], parts: [Part; BREAKDOWN_PLACES]) -> bool {
-    parts.iter().enumerate().all(|(level, p)| form(*p) == second::part(x, level))
+    parts
+        .iter()
+        .enumerate()
+        .all(|(level, p)| form(*p) == second::part(x, level))
 }
 
 fn breakdown(x: &[u8]) -> bool {

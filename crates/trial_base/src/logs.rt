@@ -7,7 +7,8 @@ fn at(x: &[u8], k: usize) -> u8 {
 
 // The letter that the last digit of v names.
 fn letter(letters: &[u8], v: usize) -> u8 {
-    v.checked_rem(letters.len()).map_or(0, |digit| at(letters, digit))
+    v.checked_rem(letters.len())
+        .map_or(0, |digit| at(letters, digit))
 }
 
 fn without_last_digit(letters: &[u8], v: usize) -> usize {
@@ -67,7 +68,9 @@ fn fibonacci(x: &[u8], k: usize) -> u8 {
     match k {
         0 => 4,
         1 => 20,
-        _ => k.checked_sub(fibonacci_below(k)).map_or(0, |back| at(x, back)),
+        _ => k
+            .checked_sub(fibonacci_below(k))
+            .map_or(0, |back| at(x, back)),
     }
 }
 

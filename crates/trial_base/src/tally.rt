@@ -23,7 +23,10 @@ fn readings(rt: &HostRuntime, x: &[u8]) -> Result<(), Unwritten> {
 
 fn tell(rt: &HostRuntime, call: Call, x: &[u8], row: usize) -> Result<(), Unwritten> {
     let n = x.len();
-    say(rt, format_args!(" FIRST DIFFERENT: {call}, row {row}, length {n}:"))?;
+    say(
+        rt,
+        format_args!(" FIRST DIFFERENT: {call}, row {row}, length {n}:"),
+    )?;
     readings(rt, x)?;
     say(rt, ";")
 }
@@ -75,7 +78,10 @@ impl Tally {
         self.before = self.before.saturating_add(self.different);
         say(
             &self.rt,
-            format_args!(" {} {tried}, {} comparisons, {} different\n", self.tried, self.compared, self.different),
+            format_args!(
+                " {} {tried}, {} comparisons, {} different\n",
+                self.tried, self.compared, self.different
+            ),
         )
     }
 

@@ -48,3 +48,15 @@ pub struct Case<'a> {
     pub way: Way,
     pub x: &'a [u8],
 }
+
+impl<'a> Case<'a> {
+    // Every row is compared.
+    pub fn whole(was: u16, x: &'a [u8]) -> Case<'a>
+        ensures { result.x.now ≡ x.now }
+    {
+        Case {
+            way: Way::whole(was),
+            x,
+        }
+    }
+}

@@ -62,7 +62,7 @@ pub fn all(t: &mut Tally) -> Result<(), Unwritten> {
         flat(t, n)?;
         of_length(t, n)?;
     }
-    t.end("logs,")
+    t.end("logs")
 }
 
 // With one other, so many places before the end.
@@ -72,5 +72,5 @@ pub fn long(t: &mut Tally) -> Result<(), Unwritten> {
             log::<LONGEST>(t, n, n - back, n - back)?;
         }
     }
-    t.end("logs,")
+    t.end("logs")
 }

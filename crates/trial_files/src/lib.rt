@@ -60,5 +60,5 @@ pub fn long(t: &mut Tally) -> Result<(), Unwritten> {
         last_symbols(t, n, n)?;
     }
     last_symbols(t, 65535, 4096)?;
-    t.end("files,")
+    t.end("files")
 }

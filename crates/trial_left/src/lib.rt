@@ -7,10 +7,8 @@ use trial_base::calls::{Call, Left};
 use trial_base::line::Unwritten;
 use trial_base::tally::Tally;
 use trial_base::way::Case;
+use trial_tables::ROOM;
 use trial_tables::rows::{Span, compare};
-
-// The most rows that can be lent. A case that needs more is not tried, and counts as a difference.
-const ROOM: usize = 4100;
 
 fn compare_both<S: Fn(&[u8], usize) -> Worth>(
     t: &mut Tally,
@@ -25,9 +23,28 @@ fn compare_both<S: Fn(&[u8], usize) -> Worth>(
 {
     let want = second_no::table(c.x.len(), best.len().min(count.len()));
     let s = Span::written(want, 0, c.x.len());
-    t.see(Call::Left(left), c.x, 0, got.map_err(u8::from) == want.map_err(u8::from))?;
-    compare(t, c, s, Call::LeftBest(left), best, |x, i| second(x, i).best)?;
-    compare(t, c, s, Call::LeftCount(left), count, |x, i| second(x, i).count)
+    t.see(
+        Call::Left(left),
+        c.x,
+        0,
+        got.map_err(u8::from) == want.map_err(u8::from),
+    )?;
+    compare(
+        t,
+        c,
+        s,
+        Call::LeftBest(left),
+        best,
+        |x, i| second(x, i).best,
+    )?;
+    compare(
+        t,
+        c,
+        s,
+        Call::LeftCount(left),
+        count,
+        |x, i| second(x, i).count,
+    )
 }
 
 // One of the two calls, as `ask` writes it, with tables of a and of b rows.
@@ -61,6 +78,22 @@ fn one<A: Fn(&[u8], &mut [u16], &mut [u16]) -> Result<(), Refusal>, S: Fn(&[u8],
 
 // Both calls.
 pub fn with_rooms(t: &mut Tally, c: Case, a: usize, b: usize) -> Result<(), Unwritten> {
-    one(t, c, Left::Covers, a, b, finder::left_covers, second_left::cover)?;
-    one(t, c, Left::Seeds, a, b, finder::left_seeds, second_left::seed)
+    one(
+        t,
+        c,
+        Left::Covers,
+        a,
+        b,
+        finder::left_covers,
+        second_left::cover,
+    )?;
+    one(
+        t,
+        c,
+        Left::Seeds,
+        a,
+        b,
+        finder::left_seeds,
+        second_left::seed,
+    )
 }

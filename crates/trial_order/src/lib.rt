@@ -79,5 +79,5 @@ pub fn kinds(t: &mut Tally) -> Result<(), Unwritten> {
         t.more();
         all(t, &x)?;
     }
-    t.end("logs,")
+    t.end("logs")
 }

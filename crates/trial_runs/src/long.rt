@@ -9,13 +9,6 @@ fn first_of(x: &[u8], n: usize) -> &[u8] {
     x.get(..n).unwrap_or(&[])
 }
 
-fn in_full(x: &[u8]) -> Case<'_> {
-    Case {
-        way: Way::whole(STRANGE),
-        x,
-    }
-}
-
 fn some_windows(t: &mut Tally, c: Case) -> Result<(), Unwritten> {
     for (a, m) in [(1000, 150), (3946, 150), (4095, 1), (3947, 150)] {
         trial_windows::at(t, c, a, m)?;
@@ -35,10 +28,10 @@ pub fn of(t: &mut Tally, kind: Kind) -> Result<(), Unwritten> {
         first: 400,
         every: 199,
     };
-    every_call(t, in_full(first_of(&x, 100)))?;
+    every_call(t, Case::whole(STRANGE, first_of(&x, 100)))?;
     every_call(t, Case { way, x: &x })?;
-    some_windows(t, in_full(&x))?;
-    t.end("logs,")
+    some_windows(t, Case::whole(STRANGE, &x))?;
+    t.end("logs")
 }
 
 fn edge(t: &mut Tally, x: &[u8], n: usize) -> Result<(), Unwritten> {
@@ -63,5 +56,5 @@ pub fn edges(t: &mut Tally) -> Result<(), Unwritten> {
     for n in [0, 1, 4096, 4097] {
         edge(t, &x, n)?;
     }
-    t.end("logs,")
+    t.end("logs")
 }

@@ -2,7 +2,7 @@
 use trial_base::line::Unwritten;
 use trial_base::logs::{how_many, spell};
 use trial_base::tally::Tally;
-use trial_base::way::{Case, Way};
+use trial_base::way::Case;
 
 // What stands in a table before a call: numbers that no answer has, or such as answers have.
 pub const STRANGE: u16 = 50000;
@@ -38,31 +38,18 @@ pub fn every_call(t: &mut Tally, c: Case) -> Result<(), Unwritten> {
     trial_answers::all(t, c)
 }
 
-// Every call, at every row, with tables that held numbers from `was` on.
-fn in_full(t: &mut Tally, was: u16, x: &[u8]) -> Result<(), Unwritten> {
-    every_call(
-        t,
-        Case {
-            way: Way::whole(was),
-            x,
-        },
-    )
-}
-
-pub fn strange(t: &mut Tally, x: &[u8]) -> Result<(), Unwritten> {
-    in_full(t, STRANGE, x)
+// At every row, with tables that held strange numbers, or small ones.
+pub fn held_strange(t: &mut Tally, x: &[u8]) -> Result<(), Unwritten> {
+    every_call(t, Case::whole(STRANGE, x))
 }
 
 pub fn held_small(t: &mut Tally, x: &[u8]) -> Result<(), Unwritten> {
-    in_full(t, SMALL, x)
+    every_call(t, Case::whole(SMALL, x))
 }
 
 // The window of m after a, and two whose sum comes round to a where it is made in a machine word.
 fn three_windows(t: &mut Tally, x: &[u8], a: usize, m: usize) -> Result<(), Unwritten> {
-    let c = Case {
-        way: Way::whole(STRANGE),
-        x,
-    };
+    let c = Case::whole(STRANGE, x);
     let far = a.wrapping_sub(m);
     trial_windows::at(t, c, a, m)?;
     trial_windows::at(t, c, far, m)?;
@@ -138,7 +125,7 @@ pub fn logs<F: Fn(&mut Tally, &[u8]) -> Result<(), Unwritten>>(
     for n in 1..=most {
         of_length(t, letters, n, &try_one)?;
     }
-    t.end("logs,")
+    t.end("logs")
 }
 
 // Tries all files of up to `most` bytes.
@@ -146,5 +133,5 @@ pub fn files(t: &mut Tally, letters: &[u8], most: usize) -> Result<(), Unwritten
     for n in 0..=most {
         of_length(t, letters, n, file)?;
     }
-    t.end("files,")
+    t.end("files")
 }

@@ -20,7 +20,12 @@ pub fn plain<F: Fn(&[u8], &mut [u16]) -> Result<(), Refusal>>(
     c.way.fill(table);
     let got = ask(c.x, table);
     let want = second_no::table(c.x.len(), table.len());
-    t.see(call, c.x, 0, got.map_err(u8::from) == want.map_err(u8::from))?;
+    t.see(
+        call,
+        c.x,
+        0,
+        got.map_err(u8::from) == want.map_err(u8::from),
+    )?;
     let s = Span::written(want, 0, c.x.len());
     compare(t, c, s, call, table, |x, i| second_way(column, x, i))
 }
@@ -38,8 +43,22 @@ fn compare_enhanced(
     t.see(Call::Enhanced, c.x, 0, same)?;
     let total = total(c.way, s.part(c.x));
     t.see(Call::Enhanced, c.x, 0, got.unwrap_or(0) as usize == total)?;
-    compare(t, c, s, Call::Table(Column::Best), best, |x, i| second_way(Column::Best, x, i))?;
-    compare(t, c, s, Call::Table(Column::Count), count, |x, i| second_way(Column::Count, x, i))
+    compare(
+        t,
+        c,
+        s,
+        Call::Table(Column::Best),
+        best,
+        |x, i| second_way(Column::Best, x, i),
+    )?;
+    compare(
+        t,
+        c,
+        s,
+        Call::Table(Column::Count),
+        count,
+        |x, i| second_way(Column::Count, x, i),
+    )
 }
 
 pub fn enhanced(

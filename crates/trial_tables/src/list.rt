@@ -44,7 +44,12 @@ fn compare_rows(
     let mut next = Some(0);
     for (r, entry) in table.iter().enumerate() {
         next = next.and_then(|q| cover_after(c.way, of, q));
-        t.see(Call::CoverList, c.x, r + 1, listed(c.way, next, used, r, *entry))?;
+        t.see(
+            Call::CoverList,
+            c.x,
+            r + 1,
+            listed(c.way, next, used, r, *entry),
+        )?;
     }
     Ok(())
 }

@@ -8,10 +8,10 @@ use trial_base::calls::{Call, Column};
 use trial_base::line::Unwritten;
 use trial_base::tally::Tally;
 use trial_base::way::Case;
+use trial_tables::ROOM;
 use trial_tables::rows::{Span, compare, second_way, total};
 
-const ROOM: usize = 4100;
-
+// The finder is lent five tables one by one, as C lends them.
 fn asked(
     c: Case,
     a: usize,
@@ -46,7 +46,14 @@ fn compare_answer(
     let total = total(c.way, s.part(c.x));
     t.see(Call::Window, c.x, 0, got.unwrap_or(0) as usize == total)?;
     for (column, table) in Column::ALL.into_iter().zip(tables) {
-        compare(t, c, s, Call::WindowTable(column), table, |x, i| second_way(column, x, i))?;
+        compare(
+            t,
+            c,
+            s,
+            Call::WindowTable(column),
+            table,
+            |x, i| second_way(column, x, i),
+        )?;
     }
     Ok(())
 }
@@ -54,7 +61,7 @@ fn compare_answer(
 // How many rows the k-th of the five tables has: exactly those that the window needs where `which` is 6, else more than enough, but for table `which`,
 // which is a row too short.
 fn rows(which: usize, k: usize, n: usize, end: usize) -> usize
-    ensures { result ≤ 4100 }
+    ensures { result ≤ ROOM }
 {
     let rows = if which == 6 {
         end
