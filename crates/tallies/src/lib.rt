@@ -24,10 +24,15 @@ impl Pick {
         requires { self.total < 2 * most_weighed }
         ensures { Better self w k result }
     {
-        Pick {
-            best: if self.count <= k { w } else { self.best },
-            count: self.count.max(k),
-            total: self.total + 1,
+        let total = self.total + 1;
+        if self.count <= k {
+            Pick {
+                best: w,
+                count: k,
+                total,
+            }
+        } else {
+            Pick { total, ..self }
         }
     }
 }
@@ -40,92 +45,102 @@ pub fn grown(w: usize, i: usize, e: usize, k: usize) -> usize
     k + w.min(i - e)
 }
 
-// The log, its last ends and its counts stay parameters from here on: a type that holds `Tallies` would be broken, a `Round`, in every step of a row.
-
-// The new prefix, of length j + 1, has no proper cover: it ends at its own end and covers all of itself.
-fn enter(x: &[u8], last: &mut [u16], held: &mut [u16], j: usize)
-    requires { Tallies x.now last.old held.old j × (j < length x.now) × (length x.now ≤ Refusals.longest) × (cover_row x.now j ≡ 0) }
-    ensures { Round x.now last.new held.new j (heaviest_row x.now j) }
-{
-    let i = (j + 1) as u16;
-    held[j] = i;
-    last[j] = i;
-}
-
-// The new prefix, whose longest proper cover is c. One that has a cover is never weighed.
-fn place(x: &[u8], last: &mut [u16], held: &mut [u16], j: usize, c: u16)
-    requires { Tallies x.now last.old held.old j × (j < length x.now) × (length x.now ≤ Refusals.longest) × (c ≡ cover_row x.now j) }
-    ensures { Round x.now last.new held.new j (heaviest_row x.now j) }
-{
-    if c != 0 {
-        last[j] = 0;
-    } else {
-        enter(x, last, held, j);
-    }
-}
-
-// Row j of a prefix that has no border, and so no proper cover: nothing is weighed.
-fn alone(x: &[u8], last: &mut [u16], held: &mut [u16], j: usize, total: u32) -> Pick
-    requires { Tallies x.now last.old held.old j × (j < length x.now) × (length x.now ≤ Refusals.longest) × (0 ≡ border_row x.now j) }
-    ensures { Tallies x.now last.new held.new (j + 1) × Judgement x.now j total result }
-{
-    enter(x, last, held, j);
-    Pick {
-        best: 0,
-        count: 0,
-        total,
-    }
-}
-
-// The weighed border w ends at j + 1: the positions that it covers up to there.
-fn tally(x: &[u8], last: &mut [u16], held: &mut [u16], j: usize, w: usize) -> usize
-    requires { Round x.now last.old held.old j w × (length x.now ≤ Refusals.longest) × (0 < w) }
-    ensures { Round x.now last.new held.new j (Weighs.heaviest x.now w) × (result ≡ covered eqb x.now (j + 1) w) }
-{
-    let e = usize::from(last[w - 1]);
-    let c = usize::from(held[w - 1]);
-    let k = grown(w, j + 1, e, c);
-    last[w - 1] = (j + 1) as u16;
-    held[w - 1] = k as u16;
-    k
-}
-
-// The best border of row j, down the chain of its weighed borders, of which the longest is `longest`. `total` were weighed in the rows before.
-fn weigh(
-    x: &[u8],
-    chain: &[u16],
-    last: &mut [u16],
-    held: &mut [u16],
+// The new prefix, the first j + 1 readings of a log that is not too long.
+// Its last ends and its counts stay two parameters: a type that holds `Tallies` would be broken, a `Round`, in every step of a row.
+#[derive(Clone, Copy)]
+struct Prefix<'a> {
+    x: &'a [u8],
     j: usize,
-    longest: usize,
-    total: u32,
-) -> Pick
-    requires { Round x.now last.old held.old j longest × Filled heaviest_row x.now chain.now j × (length x.now ≤ Refusals.longest) × (longest ≡ heaviest_row x.now j) × (total ≤ most_weighed) }
-    ensures { Tallies x.now last.new held.new (j + 1) × Judgement x.now j total result }
-{
-    let mut b = Pick {
-        best: 0,
-        count: 0,
-        total,
-    };
-    let mut w = longest;
-    while w != 0 {
-        let k = tally(x, last, held, j, w);
-        b = b.weigh(w, k);
-        w = usize::from(chain[w - 1]);
-    }
-    b
+    ghost inside: { j < length x.now },
+    ghost most: { length x.now ≤ Refusals.longest },
 }
 
-// The longest weighed border of row j, whose border b is not empty: b, if it has no proper cover, as its last end says; else what its own row of the chain says.
-fn heaviest(x: &[u8], chain: &[u16], last: &[u16], j: usize, b: usize) -> usize
-    requires { Flags x.now last.now j × Filled heaviest_row x.now chain.now j × (b ≡ border_row x.now j) × (0 < b) }
-    ensures { result ≡ heaviest_row x.now j }
-{
-    if last[b - 1] != 0 {
+impl Prefix<'_> {
+    // It has no proper cover: it ends at its own end and covers all of itself.
+    fn enter(&self, last: &mut [u16], held: &mut [u16])
+        requires { Tallies self.now.x.now last.old held.old self.now.j × (cover_row self.now.x.now self.now.j ≡ 0) }
+        ensures { Round self.now.x.now last.new held.new self.now.j (heaviest_row self.now.x.now self.now.j) }
+    {
+        let i = (self.j + 1) as u16;
+        held[self.j] = i;
+        last[self.j] = i;
+    }
+
+    // Its longest proper cover is c. One that has a cover is never weighed.
+    fn place(&self, last: &mut [u16], held: &mut [u16], c: u16)
+        requires { Tallies self.now.x.now last.old held.old self.now.j × (c ≡ cover_row self.now.x.now self.now.j) }
+        ensures { Round self.now.x.now last.new held.new self.now.j (heaviest_row self.now.x.now self.now.j) }
+    {
+        if c != 0 {
+            last[self.j] = 0;
+        } else {
+            self.enter(last, held);
+        }
+    }
+
+    // It has no border, and so no proper cover: nothing is weighed.
+    fn alone(&self, last: &mut [u16], held: &mut [u16], total: u32) -> Pick
+        requires { Tallies self.now.x.now last.old held.old self.now.j × (0 ≡ border_row self.now.x.now self.now.j) }
+        ensures { Tallies self.now.x.now last.new held.new (self.now.j + 1) × Judgement self.now.x.now self.now.j total result }
+    {
+        self.enter(last, held);
+        Pick {
+            best: 0,
+            count: 0,
+            total,
+        }
+    }
+
+    // The weighed border w ends where it ends: the positions that w covers up to there.
+    fn tally(&self, last: &mut [u16], held: &mut [u16], w: usize) -> usize
+        requires { Round self.now.x.now last.old held.old self.now.j w × (0 < w) }
+        ensures { Round self.now.x.now last.new held.new self.now.j (Weighs.heaviest self.now.x.now w) × (result ≡ covered eqb self.now.x.now (self.now.j + 1) w) }
+    {
+        let e = usize::from(last[w - 1]);
+        let c = usize::from(held[w - 1]);
+        let i = self.j + 1;
+        let k = grown(w, i, e, c);
+        last[w - 1] = i as u16;
+        held[w - 1] = k as u16;
+        k
+    }
+
+    // Its best border, down the chain of its weighed borders, of which the longest is `longest`. `total` were weighed in the rows before.
+    fn weigh(
+        &self,
+        chain: &[u16],
+        last: &mut [u16],
+        held: &mut [u16],
+        longest: usize,
+        total: u32,
+    ) -> Pick
+        requires { Round self.now.x.now last.old held.old self.now.j longest × Filled heaviest_row self.now.x.now chain.now self.now.j × (longest ≡ heaviest_row self.now.x.now self.now.j) × (total ≤ most_weighed) }
+        ensures { Tallies self.now.x.now last.new held.new (self.now.j + 1) × Judgement self.now.x.now self.now.j total result }
+    {
+        let mut b = Pick {
+            best: 0,
+            count: 0,
+            total,
+        };
+        let mut w = longest;
+        while w != 0 {
+            let k = self.tally(last, held, w);
+            b = b.weigh(w, k);
+            w = usize::from(chain[w - 1]);
+        }
         b
-    } else {
-        usize::from(chain[b - 1])
+    }
+
+    // Its longest weighed border, where its border b is not empty: b, if it has no proper cover, as its last end says; else what its own row of the chain says.
+    fn heaviest(&self, chain: &[u16], last: &[u16], b: usize) -> usize
+        requires { Flags self.now.x.now last.now self.now.j × Filled heaviest_row self.now.x.now chain.now self.now.j × (b ≡ border_row self.now.x.now self.now.j) × (0 < b) }
+        ensures { result ≡ heaviest_row self.now.x.now self.now.j }
+    {
+        if last[b - 1] != 0 {
+            b
+        } else {
+            usize::from(chain[b - 1])
+        }
     }
 }
 
@@ -144,12 +159,13 @@ pub fn row(
     ensures tallies { Tallies x.now last.new held.new (j + 1) }
     ensures judged { Judgement x.now j total result }
 {
+    let new = Prefix { x, j };
     if b == 0 {
         // Its cover is 0, and so is its entry of the chain: nothing to store.
-        return alone(x, last, held, j, total);
+        return new.alone(last, held, total);
     }
-    let w = heaviest(x, chain, last, j, b);
-    place(x, last, held, j, chain[j]);
+    let w = new.heaviest(chain, last, b);
+    new.place(last, held, chain[j]);
     chain[j] = w as u16;
-    weigh(x, chain, last, held, j, w, total)
+    new.weigh(chain, last, held, w, total)
 }

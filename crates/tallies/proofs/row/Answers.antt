@@ -15,7 +15,7 @@ pub overflow_cast-chain : goal.overflow_cast-chain
 overflow_cast-chain c = search (chain_fits, border_fits)
 
 pub weigh-requires : goal.weigh-requires
-weigh-requires c = (search own_round, search chain_laid, search rules, search rules, search rules)
+weigh-requires c = (search own_round, search chain_laid, search rules, search rules)
 
 pub returns-clause-chain : goal.returns-clause-chain
 returns-clause-chain c = search chain_set

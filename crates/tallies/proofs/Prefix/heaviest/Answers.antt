@@ -1,7 +1,7 @@
--- `tallies::heaviest` meets its contract. Assumes nothing.
+-- `tallies::Prefix::heaviest` meets its contract. Assumes nothing.
 use Rattle.std.proofs.Common.{rules}
 use Rattle.tallies.proofs.Steps.{in_last, in_chain, flagged_border, covered_border}
-use Rattle.tallies.proofs.heaviest.Goals as goal
+use Rattle.tallies.proofs.Prefix.heaviest.Goals as goal
 
 pub offset_bounds-last-b : goal.offset_bounds-last-b
 offset_bounds-last-b c = search (rules, in_last)

@@ -1,7 +1,7 @@
--- `tallies::tally` meets its contract. Assumes nothing.
+-- `tallies::Prefix::tally` meets its contract. Assumes nothing.
 use Rattle.std.proofs.Common.{rules}
 use Rattle.tallies.proofs.Steps.{tally_early, tally_small, tally_count, tally_fits, tally_round}
-use Rattle.tallies.proofs.tally.Goals as goal
+use Rattle.tallies.proofs.Prefix.tally.Goals as goal
 
 pub grown-k-requires : goal.grown-k-requires
 grown-k-requires c = (search tally_early, search tally_small)

@@ -1,6 +1,6 @@
--- `tallies::place` meets its contract. Assumes nothing.
+-- `tallies::Prefix::place` meets its contract. Assumes nothing.
 use Rattle.tallies.proofs.Steps.{covered_round}
-use Rattle.tallies.proofs.place.Goals as goal
+use Rattle.tallies.proofs.Prefix.place.Goals as goal
 
 pub returns-then-c-ne0 : goal.returns-then-c-ne0
 returns-then-c-ne0 c = search covered_round

@@ -1,8 +1,8 @@
--- `tallies::weigh` meets its contract. The loop's invariant is `Round` and `Way`, and that l and h keep their lengths; its measure is w. Assumes nothing.
+-- `tallies::Prefix::weigh` meets its contract. The loop's invariant is `Round` and `Way`, and that l and h keep their lengths; its measure is w. Assumes nothing.
 use Rattle.std.proofs.Common.{rules}
 use Rattle.tallies.proofs.Tallies.{round_done}
 use Rattle.tallies.proofs.Steps.{first_way, next_falls, next_round, next_way, way_few, way_done}
-use Rattle.tallies.proofs.weigh.Goals as goal
+use Rattle.tallies.proofs.Prefix.weigh.Goals as goal
 
 pub loop-w-init : goal.loop-w-init
 loop-w-init c = (search rules, search first_way, search rules, search rules)
