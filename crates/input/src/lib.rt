@@ -11,6 +11,7 @@ use std::io::Read;
 pub const ARGUMENT: usize = 4096;
 
 // Reads until the buffer is full, the input ends or a read fails, and answers how many bytes it put at the buffer's start.
+// A loop of its own: `read_exact` would not say how many bytes a short input has.
 pub fn read_full(from: &mut impl Read, buffer: &mut [u8]) -> usize
     ensures { result ≤ length buffer.new }
 {

@@ -44,6 +44,7 @@ impl fmt::Display for Fault {
 }
 
 // How far a text has been read: its present line, that line's number from 1, the readings before it, and what is wrong.
+// The file stays a parameter: it is the caller's memory, and a state that held it by `&mut` could not be copied.
 #[derive(Clone, Copy, Debug, PartialEq, Eq)]
 pub struct State {
     pub line: Line,
