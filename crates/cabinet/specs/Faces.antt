@@ -1,7 +1,6 @@
 -- What the C face answers where it differs from the calls: an enum and two parts, each as numbers. Assumes nothing.
 use Rattle.std.specs.Prelude.{List, ℕ, length}
-use Rattle.words.specs.declared.CoverTest.{CoverTest}
-use Rattle.words.specs.declared.CoverTest.TheVariants.{Yes, No, Refused}
+use Rattle.words.specs.Answers.{CoverTest, Yes, No, Refused}
 use Rattle.words.specs.Answers.{accepted, best_pattern_no, best_pattern_part}
 use Rattle.words.specs.PlantFile.{file_no, symbols}
 use Rattle.cabinet.specs.declared.Covers.{Covers}

@@ -8,8 +8,7 @@ use Rattle.words.specs.declared.Normal.{Normal}
 use Rattle.words.specs.declared.Breakdown.{Breakdown}
 use Rattle.words.specs.declared.Weighed.{Weighed}
 use Rattle.words.specs.declared.Pattern.{Pattern}
-use Rattle.words.specs.declared.CoverTest.{CoverTest}
-use Rattle.words.specs.declared.CoverTest.TheVariants.{Yes, No, Refused}
+use Rattle.words.specs.Answers.{CoverTest, Yes, No, Refused}
 use Rattle.words.specs.Tables.{Column}
 use Rattle.words.specs.Answers as A
 use Rattle.words.proofs.Refusals.{unique}

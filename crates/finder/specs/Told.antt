@@ -9,8 +9,7 @@ use Rattle.words.specs.declared.Normal.{Normal}
 use Rattle.words.specs.declared.Breakdown.{Breakdown}
 use Rattle.words.specs.declared.Weighed.{Weighed}
 use Rattle.words.specs.declared.Pattern.{Pattern}
-use Rattle.words.specs.declared.CoverTest.{CoverTest}
-use Rattle.words.specs.declared.CoverTest.TheVariants.{Yes, No, Refused}
+use Rattle.words.specs.Answers.{CoverTest, Yes, No, Refused}
 use Rattle.words.specs.Answers.{no_weighing, broken, listed}
 use Rattle.ceilings.specs.declared.Ceiling.{Ceiling}
 use Rattle.refusals.specs.declared.Refusal.{Refusal}

@@ -3,8 +3,7 @@ use Rattle.std.specs.Prelude.{List, [], ◌∷◌, ◌++◌, map, ℕ, eqb, leng
 use Prim.Native.String.{String}
 use Prim.Native.Char.{code}
 use Rattle.words.specs.declared.Weighing.{Weighing}
-use Rattle.words.specs.declared.CoverTest.{CoverTest}
-use Rattle.words.specs.declared.CoverTest.TheVariants.{Yes, No, Refused}
+use Rattle.words.specs.Answers.{CoverTest, Yes, No, Refused}
 use Rattle.words.specs.Words as W
 use Rattle.words.specs.Tables as T
 use Rattle.words.specs.Answers as A

@@ -1,7 +1,6 @@
 -- On an accepted log the cover test answers Yes exactly where the prefix is there and the pattern covers it. Assumes nothing.
 use Rattle.std.proofs.Common.{Bool, true, false, cond, true≢false, ◌||◌, ◌≡◌, sym, ap, ◌∙◌, List, [], ◌∷◌, ℕ, ◌≤◌, ◌<◌, arith, eqb, length, eqb-true, ne_eqb, le-ltb}
-use Rattle.words.specs.declared.CoverTest.{CoverTest}
-use Rattle.words.specs.declared.CoverTest.TheVariants.{Yes, No, Refused}
+use Rattle.words.specs.Answers.{CoverTest, Yes, No, Refused}
 use Rattle.words.specs.Refusals.{log_no, cover_test_no, outside, place}
 use Rattle.words.specs.Answers.{answer, accepted, cover_test_answer}
 use Rattle.words.proofs.Tests.{by_test}

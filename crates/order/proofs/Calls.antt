@@ -1,7 +1,7 @@
 -- What the order is claimed of is what the calls answer: their contracts, as the checker reads them off the code. Assumes nothing.
 use Rattle.std.proofs.Common.{◌≡◌, [], ◌∷◌, ℕ, Bool, true, false, Result, Ok, Err, refl}
 use contract.Lifetimes.{Lfts}
-use Rattle.words.specs.declared.CoverTest.TheVariants.{Yes}
+use Rattle.words.specs.Answers.{Yes}
 use Rattle.words.specs.Answers.{cover_test_answer, cover_list_outcome}
 use Rattle.refusals.specs.declared.Refusal.{Refusal}
 use Rattle.finder.specs.Told.{test_of, listed_of}

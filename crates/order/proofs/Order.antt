@@ -2,7 +2,7 @@
 use Rattle.std.proofs.Common.{◌≡◌, refl, ap, ◌∙◌, List, [], ◌∷◌, inl, inr, ⊎_elim, ℕ, ◌≤◌, ◌<◌, le_refl, eq-zero-or-pos, eq-or-lt_of_le, arith, eqb, length, get_or, take, drop}
 use mathlib.Core.Path.{subst⁻¹}
 use lib.Seq.{take-append_seam}
-use Rattle.words.specs.declared.CoverTest.TheVariants.{Yes}
+use Rattle.words.specs.Answers.{Yes}
 use Rattle.words.specs.declared.Listed.{Listed}
 use Rattle.words.specs.Words.{cover_list}
 use Rattle.words.specs.Refusals.{log_no, table_no}

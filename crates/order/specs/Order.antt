@@ -1,7 +1,7 @@
 -- An order among patterns: what explains a pattern explains all that the pattern explains. Claimed of the answers of `finder::cover_test` and of the
 -- table that `finder::cover_list` leaves. i, m, q and r are lengths of prefixes. Assumes nothing.
 use Rattle.std.specs.Prelude.{◌≡◌, List, [], ◌∷◌, ◌⊎◌, ℕ, ◌≤◌, ◌<◌, length, get_or, take}
-use Rattle.words.specs.declared.CoverTest.TheVariants.{Yes}
+use Rattle.words.specs.Answers.{Yes}
 use Rattle.words.specs.declared.Listed.{Listed}
 use Rattle.words.specs.Refusals.{log_no, table_no}
 use Rattle.words.specs.Answers.{cover_test_answer, cover_list_outcome}

@@ -9,8 +9,6 @@ use Rattle.words.specs.declared.Normal.{Normal}
 use Rattle.words.specs.declared.Breakdown.{Breakdown}
 use Rattle.words.specs.declared.Weighed.{Weighed}
 use Rattle.words.specs.declared.Pattern.{Pattern}
-use Rattle.words.specs.declared.CoverTest.{CoverTest}
-use Rattle.words.specs.declared.CoverTest.TheVariants.{Yes, No, Refused}
 use Rattle.words.specs.Words.{limit, normal, breakdown, covers, cover_list, weighed, total, best, best_pattern}
 use Rattle.words.specs.Tables.{Column, border_row, prefix_row, cover_row, best_row, count_row, written, window, placed}
 use Rattle.words.specs.Refusals.{table_no, log_no, prefix_no, cover_test_no, best_no, window_no}
@@ -112,6 +110,12 @@ cover_list_outcome x t =
     let l = cover_list eqb x in
     let ts : List Lent = record { before = t; made = l ++ drop (length l) t } ∷ [] in
     outcome (table_no (length x) (rooms ts)) (record { number = 0; used = length l }) (λ k. record { number = k; used = 0 }) ts
+
+-- What the cover test answers: yes, no, or the number of the refusal
+pub data CoverTest : Type 0 where
+  Yes : CoverTest
+  No : CoverTest
+  Refused : ℕ → CoverTest
 
 -- The cover test of q at i
 unfoldable pub cover_test_answer : List ℕ → ℕ → ℕ → CoverTest

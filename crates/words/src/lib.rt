@@ -1,8 +1,6 @@
-// Floor 1: what every call answers. The definitions stand in specs/, the laws about them in proofs/; here are the shapes of the answers.
-// In each answer `number` is 0, or the number of the refusal with zeros in every other field.
+// Floor 1: what every call answers. The definitions stand in specs/, the laws about them in proofs/; here are the shapes of the answers, as C takes them:
+// in each `number` is 0, or the number of the refusal with zeros in every other field. In Rust a call answers a `Result` (`finder`).
 #![tactic(auto)]
-
-ghost use Rattle.std.specs.Prelude.{◌≡◌};
 
 // The most readings that a log may have, and the places of a weighed list and of a breakdown that follow from it (`longest`, `weighed_places` and
 // `breakdown_places` of specs/).
@@ -82,19 +80,4 @@ pub struct Weighed {
 pub struct Pattern {
     pub number: u8,
     pub len: usize,
-}
-
-// The cover test.
-#[derive(Clone, Copy)]
-pub enum CoverTest {
-    Yes,
-    No,
-    Refused(u8),
-}
-
-// A table's entry as an index.
-pub fn wide(n: u16) -> usize
-    ensures { result ≡ n }
-{
-    n as usize
 }
