@@ -3,7 +3,6 @@
 
 use legend::Findings;
 use pen::Pen;
-use refusals::Refusal;
 
 // The most bytes of a picture. A box has at most 32 of them, as `M99975 35600H100000V37000H99975z`, and a step 12, as `H99975V31500`.
 // For each reading there is at most one step and one occurrence; for each two readings one run at the ceiling, with two boxes, and one run that is not
@@ -25,13 +24,13 @@ pub fn draw(pen: &mut Pen, x: &[u8], r: &Findings) {
 }
 
 // The picture of a file that was refused.
-pub fn refuse(pen: &mut Pen, no: Refusal) {
+pub fn refuse(pen: &mut Pen, number: impl Into<u8>) {
     pen.put(
         b"<svg xmlns='http://www.w3.org/2000/svg' viewBox='0 0 400 100' width='400' height='100' role='img'>
 <title>Log of a CO&#8322; head</title>
 <rect width='400' height='100' fill='#fff'/>
 <text x='40' y='62' style='font-family:Helvetica,Arial,sans-serif;font-size:30px;font-weight:bold;fill:#b00020'>refused ",
-        usize::from(u8::from(no)),
+        usize::from(number.into()),
     );
     pen.say(b"</text>\n</svg>\n");
 }

@@ -25,8 +25,7 @@ pub const OUTSIDE: u8 = 0;
 // The mark; `reach` is how far the occurrences up to the reading reach.
 #[tactic(auto, using(crate::proofs::Reaching::start_fits, crate::proofs::Reaching::start_marked))]
 fn judge(x: &[u8], q: usize, p: usize, reach: &mut usize) -> u8
-    requires within { p < length x.now }
-    requires reaches { Reaches x.now q p reach.old }
+    requires { (p < length x.now) × Reaches x.now q p reach.old }
     ensures mark { result ≡ mark_of q x.now p }
     ensures reach { Reaches x.now q (p + 1) reach.new }
 {
