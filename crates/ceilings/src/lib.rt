@@ -1,9 +1,8 @@
 // Floor 2: how a log stands to the ceiling: how many of its readings are at it, and whether the head is held there now. The definitions stand in specs/.
 #![tactic(auto)]
 
-ghost use Rattle.std.specs.Prelude.{◌≡◌, cond, ◌+◌, ◌≤◌, eqb, length};
+ghost use Rattle.std.specs.Prelude.{◌≡◌, ◌≤◌, length};
 ghost use Rattle.words.specs.Refusals.{longest};
-ghost use Rattle.words.specs.PlantFile.{ceiling_symbol};
 ghost use Rattle.ceilings.specs.Ceilings as Ceilings;
 
 // How many of the last readings say where the head stands now (`recent` of specs/).

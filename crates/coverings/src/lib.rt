@@ -1,7 +1,7 @@
 // Floor 2: one cover tested, and all covers listed. Why the log and its tables are no struct, `bases` says.
 #![tactic(auto)]
 
-ghost use Rattle.std.specs.Prelude.{◌≡◌, ◌++◌, cond, ◌+◌, ◌≤◌, ◌<◌, eqb, leb, length, drop};
+ghost use Rattle.std.specs.Prelude.{◌≡◌, ◌++◌, ◌≤◌, ◌<◌, eqb, length, drop};
 ghost use Rattle.words.specs.Words.{covers, cover_list};
 ghost use Rattle.words.specs.Tables.{prefix_row, cover_row};
 ghost use Rattle.words.specs.Refusals.{longest};
