@@ -19,6 +19,7 @@ pub fn readings(pen: &mut Pen, n: usize)
     }
 }
 
+// `held` is a number, as `Ceiling` has it for C.
 fn kind(pen: &mut Pen, held: u8)
     ensures { Wrote pen.old (Wording.kind held) pen.new }
 {
