@@ -1,4 +1,5 @@
-// Floor 4: the C face. Each call of floor 3 under a C name, with the same promise; a part is answered as its start and its length.
+// Floor 4: the C face. Each call of floor 3 under a C name, with the same promise; a part is answered as its start and its length. C has no `Result`, so here
+// the number stands beside the value.
 #![tactic(auto, using(crate::proofs::Faces::faces), unfolding(words::specs::Answers::accepted, words::specs::Answers::broken, words::specs::Answers::listed, words::specs::PlantFile::symbols, crate::specs::Faces::covers_of, crate::specs::Faces::pattern_span, crate::specs::Faces::file_span))]
 
 ghost use Rattle.std.specs.Prelude.{◌≡◌, [], ◌∷◌};
