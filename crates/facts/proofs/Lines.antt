@@ -1,11 +1,6 @@
 -- The lists of an accepted log that its lines are made of. Assumes nothing.
-use mathlib.Core.Path.{◌≡◌, refl, ap, ◌∙◌}
-use mathlib.Core.List.{List, ◌++◌}
-use Prim.Native.Nat.{ℕ, ◌≤◌}
-use native.Mathlib.Omega.{arith}
-use lib.Dec.{eqb}
-use lib.ListN.{length, take, length-append}
-use lib.Seq.{take_at}
+use Rattle.std.proofs.Common.{◌≡◌, refl, ap, ◌∙◌, List, ◌++◌, ℕ, ◌≤◌, arith, eqb, length, take, length-append}
+use Rattle.std.proofs.lemmas.List.{take_at}
 use Rattle.words.specs.declared.Weighed.{Weighed}
 use Rattle.words.specs.Words as W
 use Rattle.words.specs.Refusals.{longest}

@@ -75,7 +75,7 @@ fn told(x: &[u8], s: summary::Summary, covers: &[u16], weighed: &[u16], text: &m
     ceiling(ceilings::of(x), text);
 }
 
-// The text of the report on an accepted log.
+// The text of the report on an accepted log. That it is judged stays a clause: a struct for it would be taken apart in each of the three functions that want it.
 pub fn report(x: &[u8], text: &mut Text)
     requires { Judged (length x.now) × Fits text.old Report.report_room }
     ensures said { text.new.said ≡ text.old.said ++ Report.report_text x.now }

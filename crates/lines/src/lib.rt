@@ -11,6 +11,7 @@ pub const DECIMAL: usize = 20;
 
 pub const FIELD: usize = 6;
 
+// The room is no const parameter, which would spare a clause of each method: a caller may lend a buffer of any length.
 #[derive(Drop)]
 pub struct Text<'a> {
     bytes: &'a mut [u8],
