@@ -5,12 +5,10 @@ ghost use Rattle.std.specs.Prelude.{◌≡◌, ◌++◌, ◌+◌, ◌*◌, ◌�
 ghost use Rattle.words.specs.Refusals.{longest};
 ghost use Rattle.words.specs.Answers.{weighed_places};
 ghost use Rattle.words.proofs.Refusals.{Judged};
-ghost use Rattle.refusals.specs.Numbers.{number_of};
 ghost use Rattle.lines.specs.Text.{Fits};
 ghost use Rattle.facts.specs.Report as Report;
 
 use lines::Text;
-use refusals::Refusal;
 
 // The room of a line that lists the entries of a weighed list or fewer, and of the whole text, where one line lists the covers of the longest log
 // (`line_room` and `report_room` of specs/).
@@ -18,14 +16,14 @@ const LINE: usize = 8 + lines::FIELD * words::WEIGHED_PLACES;
 
 pub const TEXT: usize = 6 * LINE + 8 + lines::FIELD * words::LONGEST;
 
-// The text on a refused file.
+// The text on a refused file. It takes any number, as it always did, and no `Refusal`.
 #[tactic(auto, unfolding(crate::specs::Report::refused_text))]
-pub fn refused(no: Refusal, text: &mut Text)
+pub fn refused(no: u8, text: &mut Text)
     requires { Fits text.old (Report.line_room 1) }
-    ensures said { text.new.said ≡ text.old.said ++ Report.refused_text (number_of no) }
+    ensures said { text.new.said ≡ text.old.said ++ Report.refused_text no }
     ensures room { text.new.room ≡ text.old.room }
 {
-    text.line(b"refused", &[u16::from(u8::from(no))]);
+    text.line(b"refused", &[u16::from(no)]);
 }
 
 // The length, the normal form and the covers.

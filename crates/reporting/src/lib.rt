@@ -24,7 +24,7 @@ pub fn accepted<'f>(f: &'f [u8], text: &mut Text) -> Option<&'f [u8]>
     match logfile::read(f) {
         Ok(x) => Some(x),
         Err(no) => {
-            facts::refused(no, text);
+            facts::refused(u8::from(no), text);
             None
         }
     }

@@ -11,4 +11,4 @@ pub returns-in-Ok-clause-accepted : goal.returns-in-Ok-clause-accepted
 returns-in-Ok-clause-accepted c = file_accepted _ c.in-Ok.ensures.refusal c.in-Ok.ensures.part
 
 pub returns-in-Err-clause-refused : goal.returns-in-Err-clause-refused
-returns-in-Err-clause-refused c = λ said. rw (← file_refused _ _ c.in-Err.ensures.refusal said) c.refused.ensures.said
+returns-in-Err-clause-refused c = λ said. rw (← file_refused _ _ c.in-Err.ensures.refusal said, ← c.from.ensures) c.refused.ensures.said
