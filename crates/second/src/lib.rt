@@ -29,6 +29,7 @@ pub fn prefix(x: &[u8], i: usize) -> usize {
 }
 
 // Marks what the occurrence of the first q readings after j readings lies on, if there is one and it ends where the marks end or before.
+// A mark is a byte: these functions are lent any bytes, and a slice of `bool` would ask more.
 pub fn mark_occurrence(marks: &mut [u8], x: &[u8], q: usize, j: usize) {
     if q <= marks.len() && j <= marks.len() - q && occurs(x, q, j) {
         marks[j..j + q].fill(1);
