@@ -1,5 +1,5 @@
-// Floor 4: writes what every call answers on a short log, a line a column or an answer. Each function answers whether all that it had to say was written;
-// where it was not, nothing more is said.
+// Floor 4: writes what every call answers on a short log, a line a column or an answer. Each function answers whether all that it had to say was written, as
+// `output` answers it; where it was not, nothing more is said.
 #![tactic(auto)]
 
 ghost use Rattle.std.specs.Prelude.{◌≤◌, length};

@@ -1,7 +1,8 @@
 // A second way to every answer, straight from the definitions: every length is tried, readings are compared one by one, and every covered
 // position is marked. It is slow on purpose and shares nothing with the finder, so that a fault would have to be made twice to stay unseen.
 //
-// i, q and m are lengths of prefixes of the log x. j is a number of readings skipped, from 0.
+// i, q and m are lengths of prefixes of the log x. j is a number of readings skipped, from 0. Where there is none, a table's row or an entry is 0: so the scope
+// has it, and no length is 0.
 #![tactic(auto)]
 
 ghost use Rattle.std.specs.Prelude.{◌≤◌, length};
@@ -29,6 +30,7 @@ pub fn prefix(x: &[u8], i: usize) -> usize {
 }
 
 // Marks what the occurrence of the first q readings after j readings lies on, if there is one and it ends where the marks end or before.
+// A mark is a byte: these functions are lent any bytes, and a slice of `bool` would ask more.
 pub fn mark_occurrence(marks: &mut [u8], x: &[u8], q: usize, j: usize) {
     if q <= marks.len() && j <= marks.len() - q && occurs(x, q, j) {
         marks[j..j + q].fill(1);

@@ -110,7 +110,7 @@ impl Kind {
         }
     }
 
-    // Writes a long log.
+    // Writes a long log, each reading made from those before it.
     pub fn write(self, x: &mut [u8]) {
         let mut seed: u64 = 40;
         for k in 0..x.len() {

@@ -8,7 +8,7 @@ use trial_base::line::Unwritten;
 use trial_base::tally::Tally;
 use trial_base::way::Case;
 use trial_tables::ROOM;
-use trial_tables::rows::{Span, compare};
+use trial_tables::rows::{Span, compare, same_refusal};
 
 fn compare_both<S: Fn(&[u8], usize) -> Worth>(
     t: &mut Tally,
@@ -23,12 +23,7 @@ fn compare_both<S: Fn(&[u8], usize) -> Worth>(
 {
     let want = second_no::table(c.x.len(), best.len().min(count.len()));
     let s = Span::written(want, 0, c.x.len());
-    t.see(
-        Call::Left(left),
-        c.x,
-        0,
-        got.map_err(u8::from) == want.map_err(u8::from),
-    )?;
+    t.see(Call::Left(left), c.x, 0, same_refusal(got, want))?;
     compare(
         t,
         c,
@@ -47,7 +42,8 @@ fn compare_both<S: Fn(&[u8], usize) -> Worth>(
     )
 }
 
-// One of the two calls, as `ask` writes it, with tables of a and of b rows.
+// One of the two calls, as `ask` writes it, with tables of a and of b rows. Both rooms are asked here, and not by `trial_tables`, since the edit
+// second_room_not_asked tries that they are.
 fn one<A: Fn(&[u8], &mut [u16], &mut [u16]) -> Result<(), Refusal>, S: Fn(&[u8], usize) -> Worth>(
     t: &mut Tally,
     c: Case,

@@ -1,5 +1,5 @@
 // The four tables of a log.
-use crate::rows::{Span, compare, second_way, total};
+use crate::rows::{Span, compare, same_refusal, second_way, total};
 use refusals::Refusal;
 use trial_base::calls::{Call, Column};
 use trial_base::line::Unwritten;
@@ -20,12 +20,7 @@ pub fn plain<F: Fn(&[u8], &mut [u16]) -> Result<(), Refusal>>(
     c.way.fill(table);
     let got = ask(c.x, table);
     let want = second_no::table(c.x.len(), table.len());
-    t.see(
-        call,
-        c.x,
-        0,
-        got.map_err(u8::from) == want.map_err(u8::from),
-    )?;
+    t.see(call, c.x, 0, same_refusal(got, want))?;
     let s = Span::written(want, 0, c.x.len());
     compare(t, c, s, call, table, |x, i| second_way(column, x, i))
 }
@@ -39,8 +34,7 @@ fn compare_enhanced(
 ) -> Result<(), Unwritten> {
     let want = second_no::table(c.x.len(), best.len().min(count.len()));
     let s = Span::written(want, 0, c.x.len());
-    let same = got.map(|_| ()).map_err(u8::from) == want.map_err(u8::from);
-    t.see(Call::Enhanced, c.x, 0, same)?;
+    t.see(Call::Enhanced, c.x, 0, same_refusal(got, want))?;
     let total = total(c.way, s.part(c.x));
     t.see(Call::Enhanced, c.x, 0, got.unwrap_or(0) as usize == total)?;
     compare(

@@ -1,5 +1,5 @@
 // The list of covers.
-use crate::rows::Span;
+use crate::rows::{Span, same_refusal};
 use refusals::Refusal;
 use trial_base::calls::Call;
 use trial_base::line::Unwritten;
@@ -63,8 +63,7 @@ fn compare_answer(
     let want = second_no::table(c.x.len(), table.len());
     let of = Span::written(want, 0, c.x.len()).part(c.x);
     let used = got.map_or(0, usize::from);
-    let same = got.map(|_| ()).map_err(u8::from) == want.map_err(u8::from);
-    t.see(Call::CoverList, c.x, 0, same)?;
+    t.see(Call::CoverList, c.x, 0, same_refusal(got, want))?;
     t.see(Call::CoverList, c.x, 0, used <= of.len())?;
     compare_rows(t, c, of, used, table)
 }

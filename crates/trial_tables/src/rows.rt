@@ -1,9 +1,19 @@
 // The rows of a lent table after a call: those written hold what the second way gives, all others what stood there before.
+ghost use Rattle.std.specs.Prelude.{◌↔◌, IsOk, IsTrue};
+
+use refusals::Refusal;
 use second_no::No;
 use trial_base::calls::{Call, Column};
 use trial_base::line::Unwritten;
 use trial_base::tally::Tally;
 use trial_base::way::{Case, Way};
+
+// Both refuse, with one number, or neither does.
+pub fn same_refusal<T: Drop>(got: Result<T, Refusal>, want: Result<(), No>) -> bool
+    ensures { IsTrue result → (IsOk got ↔ IsOk want) }
+{
+    got.map(|_| ()).map_err(u8::from) == want.map_err(u8::from)
+}
 
 // The rows after the first `from`, up to `to`: those that a call writes. They belong to the same readings of the log.
 #[derive(Clone, Copy, PartialEq, Eq, Debug)]
