@@ -39,10 +39,11 @@ tail l = fields l ++ (10 ∷ [])
 unfoldable pub line : List ℕ → List ℕ → List ℕ
 line head l = head ++ tail l
 
--- a text in the making: what it says so far, and how many bytes its buffer has
+-- a text in the making: what it says so far, how many bytes its buffer has, and what stands in it behind the text
 pub record Page : Type 0 where
   pub said : List ℕ
   pub room : ℕ
+  pub rest : List ℕ
 
 -- there is room for n bytes more
 abbrev pub Fits : Page → ℕ → Type 0

@@ -1,7 +1,7 @@
 // Floor 4: lines of text, made in a lent buffer. A text knows how much of the buffer it takes so far; each method puts something behind that.
 #![tactic(auto)]
 
-ghost use Rattle.std.specs.Prelude.{◌≡◌, [], ◌∷◌, ◌++◌, ◌+◌, ◌*◌, ◌≤◌, length};
+ghost use Rattle.std.specs.Prelude.{◌≡◌, [], ◌∷◌, ◌++◌, ◌+◌, ◌*◌, ◌≤◌, length, drop};
 ghost use Rattle.lines.specs.Text as Lines;
 
 use std::marker::Model;
@@ -18,14 +18,14 @@ pub struct Text<'a> {
     len: usize,
 }
 
-// Contracts see what the text says so far, and the room that it was lent.
+// Contracts see what the text says so far, the room that it was lent, and what stands in it behind the text.
 impl<'a> Model for Text<'a> {
-    ghost use Rattle.std.specs.Prelude.{◌≤◌, length, take};
+    ghost use Rattle.std.specs.Prelude.{◌≤◌, length, take, drop};
     ghost use Rattle.lines.specs.Text.{Page};
 
     ghost Value = { Page };
 
-    ghost view = { λ t. record { said = take t.len t.bytes.now; room = length t.bytes.now } };
+    ghost view = { λ t. record { said = take t.len t.bytes.now; room = length t.bytes.now; rest = drop t.len t.bytes.now } };
 
     ghost invariant = { λ t. t.len ≤ length t.bytes.now };
 }
@@ -34,7 +34,7 @@ impl<'a> Model for Text<'a> {
 impl<'a> Text<'a> {
     // No text yet.
     pub fn new(bytes: &'a mut [u8]) -> Text<'a>
-        ensures { result ≡ record { said = []; room = length bytes.old } }
+        ensures { result ≡ record { said = []; room = length bytes.old; rest = bytes.old } }
     {
         Text { bytes, len: 0 }
     }
@@ -52,6 +52,7 @@ impl<'a> Text<'a> {
         requires { Lines.Fits self.old (length w.now) }
         ensures said { self.new.said ≡ self.old.said ++ w.now }
         ensures room { self.new.room ≡ self.old.room }
+        ensures rest { self.new.rest ≡ drop (length w.now) self.old.rest }
     {
         let end = self.len + w.len();
         self.bytes[self.len..end].copy_from_slice(w);
