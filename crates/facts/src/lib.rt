@@ -16,7 +16,7 @@ const LINE: usize = 8 + lines::FIELD * words::WEIGHED_PLACES;
 
 pub const TEXT: usize = 6 * LINE + 8 + lines::FIELD * words::LONGEST;
 
-// The text on a refused file. It takes any number, as it always did, and no `Refusal`.
+// The text on a refused file. It takes any number and no `Refusal`: the text is defined of any.
 #[tactic(auto, unfolding(crate::specs::Report::refused_text))]
 pub fn refused(no: u8, text: &mut Text)
     requires { Fits text.old (Report.line_room 1) }
@@ -73,7 +73,8 @@ fn told(x: &[u8], s: summary::Summary, covers: &[u16], weighed: &[u16], text: &m
     ceiling(ceilings::of(x), text);
 }
 
-// The text of the report on an accepted log. That it is judged stays a clause: a struct for it would be taken apart in each of the three functions that want it.
+// The text of the report on an accepted log. That a log is judged stays a clause, here and wherever it is one: x is a part of a lent file or log, cut anew for each call,
+// and a type for it would be made at each cut, taken apart at each loop, and name x in every other clause as a field.
 pub fn report(x: &[u8], text: &mut Text)
     requires { Judged (length x.now) × Fits text.old Report.report_room }
     ensures said { text.new.said ≡ text.old.said ++ Report.report_text x.now }

@@ -17,11 +17,7 @@ fn put(x: &[u8], text: &mut Text)
     ensures said { text.new.said ≡ text.old.said ++ Lefts.left_text x.now }
     ensures room { text.new.room ≡ text.old.room }
 {
-    // No array of four, as in `reporting::table::put`.
-    let mut cover = [0u16; words::LONGEST];
-    let mut count = [0u16; words::LONGEST];
-    let mut seed = [0u16; words::LONGEST];
-    let mut reach = [0u16; words::LONGEST];
+    let [mut cover, mut count, mut seed, mut reach] = [[0u16; words::LONGEST]; 4];
     left_covers::rows(x, &mut cover, &mut count);
     left_seeds::rows(x, &mut seed, &mut reach);
     table::rows(x.len(), &[&cover, &count, &seed, &reach], text);

@@ -30,7 +30,7 @@ pub fn accepted<'f>(f: &'f [u8], text: &mut Text) -> Option<&'f [u8]>
     }
 }
 
-// The text of the report on a file.
+// The text of the report on a file. This, the next and `left_text::file_text` are one shape: one function for them would state of its writer what their clauses say of theirs.
 pub fn report_text(f: &[u8], text: &mut Text)
     requires { Fits text.old report_room }
     ensures said { text.new.said ≡ text.old.said ++ file_text report_text f.now }

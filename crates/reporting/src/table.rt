@@ -42,12 +42,7 @@ pub fn put(x: &[u8], text: &mut Text)
     ensures said { text.new.said ≡ text.old.said ++ Texts.rows_text x.now }
     ensures room { text.new.room ≡ text.old.room }
 {
-    // No array of five: they are lent one by one, and the check does not cover such an array once it is taken apart behind a `&mut`.
-    let mut border = [0u16; words::LONGEST];
-    let mut prefix = [0u16; words::LONGEST];
-    let mut cover = [0u16; words::LONGEST];
-    let mut best = [0u16; words::LONGEST];
-    let mut count = [0u16; words::LONGEST];
+    let [mut border, mut prefix, mut cover, mut best, mut count] = [[0u16; words::LONGEST]; 5];
     let total = five_columns::rows(
         x,
         &mut border,
