@@ -1,5 +1,4 @@
 // Floor 2: the two tables that the others are made from, in arrays that are lent.
-// What reads one of them alone, or is laid over one, takes it as a slice, with `Holds` for what it has: a type for each would be as many types as functions.
 #![tactic(auto)]
 
 ghost use Rattle.std.specs.Prelude.{◌≡◌, ◌≤◌, length};
