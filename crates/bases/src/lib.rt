@@ -1,13 +1,23 @@
 // Floor 2: the two tables that the others are made from, in arrays that are lent.
-// A log and its tables go on as slices, with `Holds` for what a table has, and not as a struct: the normal form and the breakdown read the border table alone,
-// the list of covers the cover table alone, the weighed list both, and the enhanced table is laid over them, so it would be a type for each.
 #![tactic(auto)]
 
 ghost use Rattle.std.specs.Prelude.{◌≡◌, ◌≤◌, length};
 ghost use Rattle.words.specs.Tables.{border_row, cover_row, written};
+ghost use Rattle.words.specs.Refusals.{longest};
 ghost use Rattle.words.proofs.Tables.{Room, Holds};
 ghost use Rattle.cover.specs.Tree.{Blank};
 ghost use Rattle.bases.specs.Copies.{copy_row};
+
+// A log that is not too long, with its border table and its cover table.
+#[derive(Clone, Copy)]
+pub struct Bases<'a> {
+    pub x: &'a [u8],
+    pub border: &'a [u16],
+    pub cover: &'a [u16],
+    pub ghost most: { length x.now ≤ longest },
+    pub ghost borders: { Holds border_row x.now border.now },
+    pub ghost covers: { Holds cover_row x.now cover.now },
+}
 
 // Copies the rows of one table of x into another.
 fn copy(x: &[u8], from: &[u16], to: &mut [u16])
@@ -35,12 +45,12 @@ pub fn borders_and_covers(
     cover::rows(x, up, kids, cover);
 }
 
-// The border and the cover table of x once more, in b and c, which will be laid over.
-pub fn copies(x: &[u8], border: &[u16], cover: &[u16], b: &mut [u16], c: &mut [u16])
-    requires { Holds border_row x.now border.now × Holds cover_row x.now cover.now × Room x.now b.old × Room x.now c.old }
-    ensures border { b.new ≡ written (border_row x.now) (length x.now) b.old }
-    ensures cover { c.new ≡ written (cover_row x.now) (length x.now) c.old }
+// The border and the cover table once more, in b and c, which will be laid over.
+pub fn copies(bases: &Bases, b: &mut [u16], c: &mut [u16])
+    requires { Room bases.now.x.now b.old × Room bases.now.x.now c.old }
+    ensures border { b.new ≡ written (border_row bases.now.x.now) (length bases.now.x.now) b.old }
+    ensures cover { c.new ≡ written (cover_row bases.now.x.now) (length bases.now.x.now) c.old }
 {
-    copy(x, border, b);
-    copy(x, cover, c);
+    copy(bases.x, bases.border, b);
+    copy(bases.x, bases.cover, c);
 }

@@ -3,8 +3,8 @@
 
 ghost use Rattle.std.specs.Prelude.{◌≡◌, ◌+◌, ◌<◌, eqb, length};
 ghost use Rattle.words.specs.Words as Words;
-ghost use Rattle.words.specs.Tables.{border_row, cover_row, written};
-ghost use Rattle.words.proofs.Tables.{Room, Holds, Filled};
+ghost use Rattle.words.specs.Tables.{written};
+ghost use Rattle.words.proofs.Tables.{Room, Filled};
 ghost use Rattle.repeats.specs.Repeats.{reached};
 ghost use Rattle.repeats.proofs.Starts as Starts;
 ghost use Rattle.repeats.proofs.LeftSeeds.{Bare};
@@ -12,6 +12,7 @@ ghost use Rattle.candidates.specs.Candidates.{bare_row, fall_row, Sown, Far, Rea
 
 mod columns;
 
+use bases::Bases;
 pub use columns::{Columns, Row};
 
 // The left seed of a prefix: its length, the positions that it reaches, and its longest start that ends the prefix.
@@ -40,13 +41,13 @@ impl Seed {
 }
 
 // Row r, from the rows before it: the longest length up to r that has no proper cover.
-fn bare_at(x: &[u8], cover: &[u16], bare: &[u16], r: usize) -> usize
-    requires { Holds cover_row x.now cover.now × Filled bare_row x.now bare.now r }
-    ensures { result ≡ bare_row x.now r }
+fn bare_at(bases: &Bases, bare: &[u16], r: usize) -> usize
+    requires { Filled bare_row bases.now.x.now bare.now r }
+    ensures { result ≡ bare_row bases.now.x.now r }
 {
     if r == 0 {
         0
-    } else if cover[r - 1] == 0 {
+    } else if bases.cover[r - 1] == 0 {
         r
     } else {
         usize::from(bare[r - 1])
@@ -54,27 +55,27 @@ fn bare_at(x: &[u8], cover: &[u16], bare: &[u16], r: usize) -> usize
 }
 
 // Row r, from the rows before it: the longest border of the first r readings that is shorter than q, the longest length up to r without a proper cover.
-fn fall_at(x: &[u8], border: &[u16], fall: &[u16], r: usize, q: usize) -> usize
-    requires { Holds border_row x.now border.now × Filled fall_row x.now fall.now r × (q ≡ bare_row x.now r) }
-    ensures { result ≡ fall_row x.now r }
+fn fall_at(bases: &Bases, fall: &[u16], r: usize, q: usize) -> usize
+    requires { Filled fall_row bases.now.x.now fall.now r × (q ≡ bare_row bases.now.x.now r) }
+    ensures { result ≡ fall_row bases.now.x.now r }
 {
     if r == 0 {
         return 0;
     }
-    let b = usize::from(border[r - 1]);
+    let b = usize::from(bases.border[r - 1]);
     if b < q { b } else { usize::from(fall[b]) }
 }
 
 // Row r of `bare` becomes the longest length up to r that has no proper cover, row r of `fall` the longest border of the first r readings that is shorter
 // than that: where a start falls to when the pattern becomes one that is no longer than it.
-pub fn rows(x: &[u8], border: &[u16], cover: &[u16], bare: &mut [u16], fall: &mut [u16])
-    requires { Room x.now bare.old × Room x.now fall.old × Holds border_row x.now border.now × Holds cover_row x.now cover.now }
-    ensures bare { bare.new ≡ written (bare_row x.now) (length x.now) bare.old }
-    ensures fall { fall.new ≡ written (fall_row x.now) (length x.now) fall.old }
+pub fn rows(bases: &Bases, bare: &mut [u16], fall: &mut [u16])
+    requires { Room bases.now.x.now bare.old × Room bases.now.x.now fall.old }
+    ensures bare { bare.new ≡ written (bare_row bases.now.x.now) (length bases.now.x.now) bare.old }
+    ensures fall { fall.new ≡ written (fall_row bases.now.x.now) (length bases.now.x.now) fall.old }
 {
-    for r in 0..x.len() {
-        let q = bare_at(x, cover, bare, r);
-        let m = fall_at(x, border, fall, r, q);
+    for r in 0..bases.x.len() {
+        let q = bare_at(bases, bare, r);
+        let m = fall_at(bases, fall, r, q);
         bare[r] = q as u16;
         fall[r] = m as u16;
     }

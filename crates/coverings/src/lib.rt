@@ -1,4 +1,5 @@
-// Floor 2: one cover tested, and all covers listed. Why the log and its tables are no struct, `bases` says.
+// Floor 2: one cover tested, and all covers listed.
+// The log and a table stay two parameters, and no type as `bases::Bases` is: a caller has them for one call, and would make and name a value for it.
 #![tactic(auto)]
 
 ghost use Rattle.std.specs.Prelude.{◌≡◌, ◌++◌, ◌≤◌, ◌<◌, eqb, length, drop};

@@ -4,30 +4,30 @@
 ghost use Rattle.std.specs.Prelude.{◌≡◌, eqb, length};
 ghost use Rattle.words.specs.Words as Words;
 ghost use Rattle.words.specs.Tables.{border_row, prefix_row, cover_row, best_row, count_row, written};
-ghost use Rattle.words.proofs.Tables.{Room, Holds};
+ghost use Rattle.words.proofs.Tables.{Room};
 ghost use Rattle.words.proofs.Weighs.{heaviest_row};
 ghost use Rattle.cover.specs.Tree.{Blank};
 
-// Writes Best and Count of x into the first rows of the two tables, from a border and a cover table that stay, with three arrays to work in, and returns the
-// weighed total. Of these `chain` is left with the chain of weighed borders.
+use bases::Bases;
+
+// Writes Best and Count of the log into the first rows of the two tables, from a border and a cover table that stay, with three arrays to work in, and
+// returns the weighed total. Of these `chain` is left with the chain of weighed borders.
 fn weighed_beside(
-    x: &[u8],
-    border: &[u16],
-    cover: &[u16],
+    bases: &Bases,
     best: &mut [u16],
     count: &mut [u16],
     chain: &mut [u16],
     last: &mut [u16],
     held: &mut [u16],
 ) -> u32
-    requires { Holds border_row x.now border.now × Holds cover_row x.now cover.now × Room x.now best.old × Room x.now count.old × Room x.now chain.old × Room x.now last.old × Room x.now held.old }
-    ensures best { best.new ≡ written (best_row x.now) (length x.now) best.old }
-    ensures count { count.new ≡ written (count_row x.now) (length x.now) count.old }
-    ensures chain { chain.new ≡ written (heaviest_row x.now) (length x.now) chain.old }
-    ensures total { result ≡ Words.total eqb x.now }
+    requires { Room bases.now.x.now best.old × Room bases.now.x.now count.old × Room bases.now.x.now chain.old × Room bases.now.x.now last.old × Room bases.now.x.now held.old }
+    ensures best { best.new ≡ written (best_row bases.now.x.now) (length bases.now.x.now) best.old }
+    ensures count { count.new ≡ written (count_row bases.now.x.now) (length bases.now.x.now) count.old }
+    ensures chain { chain.new ≡ written (heaviest_row bases.now.x.now) (length bases.now.x.now) chain.old }
+    ensures total { result ≡ Words.total eqb bases.now.x.now }
 {
-    bases::copies(x, border, cover, best, chain);
-    enhanced::rows(x, chain, last, held, best, count)
+    bases::copies(bases, best, chain);
+    enhanced::rows(bases.x, chain, last, held, best, count)
 }
 
 // Writes four columns of x into the first rows of the lent tables, with three arrays to work in, and returns the weighed total. Of these `chain` is left with
@@ -51,7 +51,8 @@ fn four_columns(
     ensures total { result ≡ Words.total eqb x.now }
 {
     bases::borders_and_covers(x, border, cover, up, kids);
-    weighed_beside(x, border, cover, best, count, chain, up, kids)
+    let bases = Bases { x, border, cover };
+    weighed_beside(&bases, best, count, chain, up, kids)
 }
 
 // The tables stay five parameters, as C lends them: of one type a clause would say `tables.exit.border.now` for `border.new`, and so for each of the five.

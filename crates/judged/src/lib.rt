@@ -9,6 +9,8 @@ ghost use Rattle.words.specs.Answers.{breakdown_places, broken, listed};
 ghost use Rattle.words.proofs.Tables.{Room, Holds};
 ghost use Rattle.words.proofs.Refusals.{Judged};
 
+use bases::Bases;
+
 // By how much the array of the chain is longer than the others. Where two lie a multiple of 4,096 bytes apart, a read of the one waits for a store to the same
 // row of the other: no instruction more, but time.
 const APART: usize = 96;
@@ -107,5 +109,10 @@ pub fn weighed(x: &[u8]) -> words::Weighed
     let mut up = [0u16; words::LONGEST + 1];
     let mut kids = [0u16; words::LONGEST + 1];
     bases::borders_and_covers(x, &mut border, &mut cover, &mut up, &mut kids);
-    weighing::list(x, &border, &cover)
+    let bases = Bases {
+        x,
+        border: &border,
+        cover: &cover,
+    };
+    weighing::list(&bases)
 }

@@ -11,6 +11,7 @@ ghost use Rattle.repeats.specs.Repeats.{left_seed_row, seed_count_row};
 ghost use Rattle.candidates.specs.Candidates.{Made};
 ghost use Rattle.standings.specs.Standings.{Stands};
 
+use bases::Bases;
 use candidates::{Columns, Row};
 use standings::Standing;
 
@@ -74,7 +75,8 @@ fn columns(
     ensures { Made x.now border.new bare.new fall.new × Holds cover_row x.now cover.new }
 {
     bases::borders_and_covers(x, border, cover, up, kids);
-    candidates::rows(x, border, cover, bare, fall);
+    let bases = Bases { x, border, cover };
+    candidates::rows(&bases, bare, fall);
 }
 
 // Writes the left seed of each prefix of x and the positions that it reaches into the first rows of the two tables. The chain is laid over the cover table, and

@@ -1,4 +1,5 @@
-// Floor 2: normal forms and breakdowns, from the border table. Why the log and its tables are no struct, `bases` says.
+// Floor 2: normal forms and breakdowns, from the border table.
+// The log and that table stay two parameters, and no type as `bases::Bases` is: a caller has them for one call, and would make and name a value for it.
 #![tactic(auto)]
 
 ghost use Rattle.std.specs.Prelude.{◌≡◌, ◌≤◌, ◌<◌, eqb, length};

@@ -9,6 +9,8 @@ ghost use Rattle.words.proofs.Tables.{Room, Holds};
 ghost use Rattle.cover.specs.Tree.{Blank};
 ghost use Rattle.summary.specs.Whole.{outline_of, summary_of, Made};
 
+use bases::Bases;
+
 // What the border and the cover table say of the whole log: its normal form, how many covers it has, and its weighed list.
 #[derive(Clone, Copy)]
 pub struct Outline {
@@ -26,15 +28,15 @@ pub struct Summary {
 }
 
 // Reads the outline off the border and the cover table, and writes the covers, rising, into the first entries of the lent table.
-fn read_bases(x: &[u8], border: &[u16], cover: &[u16], covers: &mut [u16]) -> Outline
-    requires { Holds border_row x.now border.now × Holds cover_row x.now cover.now × Room x.now covers.old × (0 < length x.now) }
-    ensures whole { result ≡ outline_of x.now }
-    ensures table { covers.new ≡ cover_list eqb x.now ++ drop (length (cover_list eqb x.now)) covers.old }
+fn read_bases(bases: &Bases, covers: &mut [u16]) -> Outline
+    requires { Room bases.now.x.now covers.old × (0 < length bases.now.x.now) }
+    ensures whole { result ≡ outline_of bases.now.x.now }
+    ensures table { covers.new ≡ cover_list eqb bases.now.x.now ++ drop (length (cover_list eqb bases.now.x.now)) covers.old }
 {
     Outline {
-        normal: parts::normal(x, border, x.len()),
-        covers: coverings::list(x, cover, covers),
-        weighed: weighing::list(x, border, cover),
+        normal: parts::normal(bases.x, bases.border, bases.x.len()),
+        covers: coverings::list(bases.x, bases.cover, covers),
+        weighed: weighing::list(bases),
     }
 }
 
@@ -54,7 +56,8 @@ fn begin(
     ensures table { covers.new ≡ cover_list eqb x.now ++ drop (length (cover_list eqb x.now)) covers.old }
 {
     bases::borders_and_covers(x, border, cover, up, kids);
-    read_bases(x, border, cover, covers)
+    let bases = Bases { x, border, cover };
+    read_bases(&bases, covers)
 }
 
 // Lays Best over the border table and the chain over the cover table, and makes Count.

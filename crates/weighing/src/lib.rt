@@ -1,13 +1,13 @@
-// Floor 2: the weighed list of a log, from its border and its cover table. Why the log and its tables are no struct, `bases` says.
+// Floor 2: the weighed list of a log, from its border and its cover table.
 #![tactic(auto)]
 
 ghost use Rattle.std.specs.Prelude.{◌≡◌, ◌≤◌, ◌<◌, eqb, length};
 ghost use Rattle.words.specs.Words as Words;
-ghost use Rattle.words.specs.Tables.{border_row, cover_row};
 ghost use Rattle.words.specs.Refusals.{longest};
 ghost use Rattle.words.specs.Answers.{listed};
-ghost use Rattle.words.proofs.Tables.{Holds};
 ghost use Rattle.words.proofs.Weighs as Weighs;
+
+use bases::Bases;
 
 // The exponent of the greatest power of two not above i.
 #[tactic(auto, using(crate::proofs::Steps::exponent_limit))]
@@ -19,34 +19,35 @@ fn exponent(i: usize) -> u16
 }
 
 // The longest weighed border of the first i readings: down the chain of their borders, the first that has no proper cover.
-fn heaviest(x: &[u8], border: &[u16], cover: &[u16], i: usize) -> usize
-    requires { Holds border_row x.now border.now × Holds cover_row x.now cover.now × (0 < i) × (i ≤ length x.now) × (length x.now ≤ longest) }
-    ensures { result ≡ Weighs.heaviest x.now i }
+fn heaviest(bases: &Bases, i: usize) -> usize
+    requires { (0 < i) × (i ≤ length bases.now.x.now) }
+    ensures { result ≡ Weighs.heaviest bases.now.x.now i }
 {
     let mut q = i;
     loop {
-        let b = usize::from(border[q - 1]);
-        if b == 0 || cover[b - 1] == 0 {
+        let b = usize::from(bases.border[q - 1]);
+        if b == 0 || bases.cover[b - 1] == 0 {
             return b;
         }
         q = b;
     }
 }
 
-// The weighed borders of the whole of x, longest first.
-pub fn list(x: &[u8], border: &[u16], cover: &[u16]) -> words::Weighed
-    requires { Holds border_row x.now border.now × Holds cover_row x.now cover.now × (0 < length x.now) × (length x.now ≤ longest) }
-    ensures { result ≡ listed 0 (Words.weighed eqb x.now (length x.now)) (Words.limit (length x.now)) }
+// The weighed borders of the whole log, longest first.
+pub fn list(bases: &Bases) -> words::Weighed
+    requires { 0 < length bases.now.x.now }
+    ensures { result ≡ listed 0 (Words.weighed eqb bases.now.x.now (length bases.now.x.now)) (Words.limit (length bases.now.x.now)) }
 {
-    let limit = exponent(x.len());
+    let n = bases.x.len();
+    let limit = exponent(n);
     let mut lens = [0u16; words::WEIGHED_PLACES];
     // The chain ends by itself: k counts what it wrote.
     let mut k = 0;
-    let mut w = heaviest(x, border, cover, x.len());
+    let mut w = heaviest(bases, n);
     while w != 0 {
         lens[k] = w as u16;
         k += 1;
-        w = heaviest(x, border, cover, w);
+        w = heaviest(bases, w);
     }
     words::Weighed {
         number: 0,

@@ -6,14 +6,14 @@ use Rattle.candidates.proofs.bare_at.Goals as goal
 pub returns-then-r-eq0 : goal.returns-then-r-eq0
 returns-then-r-eq0 c = search bare_first
 
-pub offset_bounds-cover-r : goal.offset_bounds-cover-r
-offset_bounds-cover-r c = search (rules, in_cover)
+pub offset_bounds-bases-r : goal.offset_bounds-bases-r
+offset_bounds-bases-r c = search (rules, in_cover)
 
-pub bounds-cover-r : goal.bounds-cover-r
-bounds-cover-r c = search in_cover
+pub bounds-bases-r : goal.bounds-bases-r
+bounds-bases-r c = search in_cover
 
-pub returns-then-cover-r-eq0 : goal.returns-then-cover-r-eq0
-returns-then-cover-r-eq0 c = search bare_yes
+pub returns-then-bases-r-eq0 : goal.returns-then-bases-r-eq0
+returns-then-bases-r-eq0 c = search bare_yes
 
 pub offset_bounds-bare-r : goal.offset_bounds-bare-r
 offset_bounds-bare-r c = search (rules, in_bare)
@@ -21,5 +21,5 @@ offset_bounds-bare-r c = search (rules, in_bare)
 pub bounds-bare-r : goal.bounds-bare-r
 bounds-bare-r c = search in_bare
 
-pub returns-else-cover-r-eq0 : goal.returns-else-cover-r-eq0
-returns-else-cover-r-eq0 c = search bare_no
+pub returns-else-bases-r-eq0 : goal.returns-else-bases-r-eq0
+returns-else-bases-r-eq0 c = search bare_no

@@ -6,11 +6,11 @@ use Rattle.candidates.proofs.fall_at.Goals as goal
 pub returns-then-r-eq0 : goal.returns-then-r-eq0
 returns-then-r-eq0 c = search fall_first
 
-pub offset_bounds-border-r : goal.offset_bounds-border-r
-offset_bounds-border-r c = search (rules, in_border)
+pub offset_bounds-bases-r : goal.offset_bounds-bases-r
+offset_bounds-bases-r c = search (rules, in_border)
 
-pub bounds-border-r : goal.bounds-border-r
-bounds-border-r c = search in_border
+pub bounds-bases-r : goal.bounds-bases-r
+bounds-bases-r c = search in_border
 
 pub returns-then-b-q : goal.returns-then-b-q
 returns-then-b-q c = search fall_yes

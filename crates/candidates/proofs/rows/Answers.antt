@@ -9,10 +9,10 @@ pub loop-r-init : goal.loop-r-init
 loop-r-init c = (search rows_none, search rows_none)
 
 pub bare_at-q-requires : goal.bare_at-q-requires
-bare_at-q-requires c = (search rules, search rows_filled)
+bare_at-q-requires c = search rows_filled
 
 pub fall_at-m-requires : goal.fall_at-m-requires
-fall_at-m-requires c = (search rules, search rows_filled, search rules)
+fall_at-m-requires c = (search rows_filled, search rules)
 
 pub overflow_cast-bare : goal.overflow_cast-bare
 overflow_cast-bare c = search bare_fits

@@ -7,5 +7,8 @@ use Rattle.judged.proofs.weighed.Goals as goal
 pub borders_and_covers-requires : goal.borders_and_covers-requires
 borders_and_covers-requires c = (search rules, search rules, search work_blank)
 
-pub list-requires : goal.list-requires
-list-requires c = (search (work_holds border_row), search (work_holds cover_row), search rules, search rules)
+pub invariant_of-bases-clause-borders : goal.invariant_of-bases-clause-borders
+invariant_of-bases-clause-borders c = search (work_holds border_row)
+
+pub invariant_of-bases-clause-covers : goal.invariant_of-bases-clause-covers
+invariant_of-bases-clause-covers c = search (work_holds cover_row)

@@ -3,7 +3,7 @@ use Rattle.weighing.proofs.Steps.{Down}
 use Rattle.weighing.proofs.heaviest.Given as goal
 
 abbrev pub invariant-loop-q : goal.invariant-loop-q
-invariant-loop-q l = Down l.x l.i l.q
+invariant-loop-q l = Down l.bases.x.now l.i l.q
 
 abbrev pub decreases-loop-q : goal.decreases-loop-q
 decreases-loop-q l = l.q
