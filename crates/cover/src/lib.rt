@@ -1,5 +1,6 @@
 // Floor 2: the cover table of a log, on line, by the tree of longest proper covers (specs/Tree).
-// up and kids are two slices, and no struct or array of pairs: they are lent, and the enhanced table has its last ends and its counts in them afterwards.
+// up and kids stay two parameters: `Forest`, the fact about them, speaks of a period and a row that change in every step, so that a type that carried it would be broken in
+// each. And no array of pairs: the enhanced table has its last ends and its counts in the two afterwards.
 #![tactic(auto)]
 
 ghost use Rattle.std.specs.Prelude.{◌≡◌, ◌+◌, ◌-◌, ◌≤◌, length};

@@ -1,5 +1,6 @@
 // Floor 4: standard output. What a program has made is written whole, or a line on standard error says that it was not; then the program is to stop.
-// Each answers yes or no: `a && b` of its callers would be no plainer as `a?; b?; Ok(())`, and `fail` promises that it answers no.
+// Each answers yes or no, as `fail` promises that it answers no, and a program goes on with `&&`. Where the no has to go up through many functions, as in the trial, its caller
+// makes an `Err` of it (`line` of `trial_base`).
 #![tactic(auto)]
 
 ghost use Rattle.std.specs.Prelude.{◌≡◌, false};

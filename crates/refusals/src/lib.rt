@@ -73,10 +73,7 @@ pub fn prefix(n: usize, i: usize) -> Result<(), Refusal>
     ensures { number result ≡ prefix_no n i }
 {
     log(n)?;
-    if i == 0 {
-        return Err(Refusal::Place);
-    }
-    if n < i {
+    if i == 0 || n < i {
         return Err(Refusal::Place);
     }
     Ok(())
@@ -87,10 +84,7 @@ pub fn cover_test(n: usize, i: usize, q: usize) -> Result<(), Refusal>
     ensures { number result ≡ cover_test_no n i q }
 {
     prefix(n, i)?;
-    if q == 0 {
-        return Err(Refusal::Place);
-    }
-    if i < q {
+    if q == 0 || i < q {
         return Err(Refusal::Place);
     }
     Ok(())
@@ -117,13 +111,7 @@ pub fn window<const K: usize>(
     ensures { number result ≡ window_no n a m rooms.entry }
 {
     log(n)?;
-    if m == 0 {
-        return Err(Refusal::Place);
-    }
-    if n < m {
-        return Err(Refusal::Place);
-    }
-    if n - m < a {
+    if m == 0 || n < m || n - m < a {
         return Err(Refusal::Place);
     }
     if fewer(&rooms, a + m) {

@@ -1,5 +1,5 @@
-// A second way to every answer, straight from the definitions: every length is tried, readings are compared one by one, and every covered
-// position is marked. It is slow on purpose and shares nothing with the finder, so that a fault would have to be made twice to stay unseen.
+// A second way to every answer, straight from the definitions: every length is tried, the readings themselves are compared, and every
+// covered position is marked. It is slow on purpose and shares nothing with the finder, so that a fault would have to be made twice to stay unseen.
 //
 // i, q and m are lengths of prefixes of the log x. j is a number of readings skipped, from 0. Where there is none, a table's row or an entry is 0: so the scope
 // has it, and no length is 0.

@@ -41,7 +41,7 @@ pub fn list(bases: &Bases) -> words::Weighed
     let n = bases.x.len();
     let limit = exponent(n);
     let mut lens = [0u16; words::WEIGHED_PLACES];
-    // The chain ends by itself: k counts what it wrote.
+    // The chain ends by itself, and k counts what it wrote: a `for` over the places would need a way out in its middle.
     let mut k = 0;
     let mut w = heaviest(bases, n);
     while w != 0 {
