@@ -38,7 +38,8 @@ pub fn picture_of(pen: &mut Pen, file: &[u8]) {
     }
 }
 
-// Reads a file and writes its picture. Whether it was written whole.
+// Reads a file and writes its picture. Whether it was written whole. The way of `reporting::run`, but with a pen, which may run out of room, where a text may not: no plainer
+// as one function over both.
 pub fn run(rt: &(impl Print + Eprint), from: &mut impl Read) -> bool {
     let mut file = [0u8; logfile::FILE_ROOM];
     let mut out = [0u8; drawing::ROOM];

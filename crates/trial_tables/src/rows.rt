@@ -37,6 +37,7 @@ impl Span {
     }
 }
 
+// The second way to a column. A match, since a window's columns are gone over by `Column::ALL`, and a table of functions would be handed out.
 pub fn second_way(column: Column, x: &[u8], i: usize) -> usize {
     match column {
         Column::Border => second::border(x, i),
