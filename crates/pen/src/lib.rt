@@ -10,8 +10,8 @@ ghost use Rattle.pen.specs.Pens as Pens;
 // Where the text ends, and whether every piece has been put. It keeps its end where a piece was left out (`pen_after` of specs/), so it is no Option.
 #[derive(Clone, Copy)]
 pub struct Place {
-    at: usize,
-    fits: bool,
+    pub at: usize,
+    pub fits: bool,
 }
 
 impl Place {
@@ -26,8 +26,8 @@ impl Place {
 
 #[derive(Drop)]
 pub struct Pen<'a> {
-    out: &'a mut [u8],
-    place: Place,
+    pub out: &'a mut [u8],
+    pub place: Place,
 }
 
 impl<'a> Pen<'a> {
