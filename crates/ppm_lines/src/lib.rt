@@ -57,7 +57,10 @@ fn read_text(from: &mut impl Read, file: &mut [u8; logfile::LONGEST_FILE]) -> Re
 }
 
 // Reads a text to its end and makes its file, at the front of the room. Answers how long it is.
-pub fn fill(from: &mut impl Read, room: &mut [u8; logfile::LONGEST_FILE]) -> Result<usize, Wrong>
+pub fn make_file(
+    from: &mut impl Read,
+    room: &mut [u8; logfile::LONGEST_FILE],
+) -> Result<usize, Wrong>
     ensures within { IfOk result (λ n. n ≤ length room.new) }
     ensures made { IfOk result (λ n. Made (take n room.new)) }
 {
@@ -71,15 +74,15 @@ pub fn fill(from: &mut impl Read, room: &mut [u8; logfile::LONGEST_FILE]) -> Res
     }
 }
 
-// The same, with the file as that part of the room. No clause here can say what the room holds once the part is let go: `fill` says it.
-pub fn make_file<'a>(
+// The same, with the file as that part of the room. No clause here can say what the room holds once the part is let go: `make_file` says it.
+pub fn make_part<'a>(
     from: &mut impl Read,
     room: &'a mut [u8; logfile::LONGEST_FILE],
 ) -> Result<&'a [u8], Wrong>
     ensures made { IfOk result (λ file. Made file.now) }
     ensures place { IfOk result (λ file. file.ref_ptr ≡ room.entry.ref_ptr) }
 {
-    let n = fill(from, room)?;
+    let n = make_file(from, room)?;
     Ok(&room[..n])
 }
 
@@ -93,7 +96,7 @@ fn put(rt: &(impl Print + Eprint), file: &[u8])
 // From a text of readings to the plant's file. What is wrong is said on standard error.
 pub fn run(rt: &HostRuntime, from: &mut impl Read) {
     let mut room = [0u8; logfile::LONGEST_FILE];
-    match make_file(from, &mut room) {
+    match make_part(from, &mut room) {
         Ok(file) => put(rt, file),
         Err(wrong) => {
             let _ = rt.eprintln(wrong);
