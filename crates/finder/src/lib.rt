@@ -6,7 +6,7 @@ ghost use Rattle.words.specs.Words.{normal, weighed, breakdown, limit};
 ghost use Rattle.words.specs.Tables.{border_row, prefix_row, cover_row};
 ghost use Rattle.words.specs.Refusals.{log_no, table_no, prefix_no};
 ghost use Rattle.words.specs.Answers as Answers;
-ghost use Rattle.ceilings.specs.Ceilings.{ceiling_of};
+ghost use Rattle.ceilings.specs.Ceilings as Ceilings;
 ghost use Rattle.repeats.specs.Repeats.{left_cover_row, left_count_row, left_seed_row, seed_count_row};
 ghost use Rattle.refusals.specs.Numbers.{number, told};
 ghost use Rattle.finder.specs.Told.{written_of, weighing_of, listed_of, test_of, pattern_of};
@@ -147,7 +147,7 @@ pub fn best_pattern(x: &[u8]) -> &[u8]
 
 // How many readings of x are at the ceiling, and whether the head is held there now.
 pub fn ceiling(x: &[u8]) -> Result<ceilings::Ceiling, Refusal>
-    ensures { result ≡ told (log_no (length x.now)) (ceiling_of x.now) }
+    ensures { result ≡ told (log_no (length x.now)) (Ceilings.ceiling_of x.now) }
 {
     refusals::log(x.len())?;
     Ok(ceilings::of(x))

@@ -40,22 +40,6 @@ module _ {A B : Type 0} (made : A → B) (refusal : ℕ → B) (code : B → ℕ
 
 -- ---- `told`, where the call's number is one of 0 to 3: what it stands for in the document, and its number
 
-pub told_stands : {A B : Type 0} (made : A → B) (refusal : ℕ → B) (v : A) (k : ℕ) → k ≤ 3 → stands_for made refusal (told k v) ≡ answer k (made v) refusal
-unfolding told refusal_of accepted answer
-told_stands made refusal v zero h = refl
-told_stands made refusal v (suc zero) h = refl
-told_stands made refusal v (suc (suc zero)) h = refl
-told_stands made refusal v (suc (suc (suc zero))) h = refl
-told_stands made refusal v (suc (suc (suc (suc k)))) h = absurd (omega arith)
-
-pub told_number : {A : Type 0} (v : A) (k : ℕ) → k ≤ 3 → number (told k v) ≡ k
-unfolding told refusal_of
-told_number v zero h = refl
-told_number v (suc zero) h = refl
-told_number v (suc (suc zero)) h = refl
-told_number v (suc (suc (suc zero))) h = refl
-told_number v (suc (suc (suc (suc k)))) h = absurd (omega arith)
-
 pub number_back : (k : ℕ) → k ≤ 3 → (k ≡ 0 → ⊥) → number_of (refusal_of k) ≡ k
 unfolding refusal_of
 number_back zero h nz = absurd (nz refl)
@@ -63,6 +47,16 @@ number_back (suc zero) h nz = refl
 number_back (suc (suc zero)) h nz = refl
 number_back (suc (suc (suc zero))) h nz = refl
 number_back (suc (suc (suc (suc k)))) h nz = absurd (omega arith)
+
+pub told_stands : {A B : Type 0} (made : A → B) (refusal : ℕ → B) (v : A) (k : ℕ) → k ≤ 3 → stands_for made refusal (told k v) ≡ answer k (made v) refusal
+unfolding told accepted answer
+told_stands made refusal v zero h = refl
+told_stands made refusal v (suc k) h = rw (ne_eqb (suc k) 0 (λ z. omega arith)) (ap refusal (number_back (suc k) h (λ z. omega arith)))
+
+pub told_number : {A : Type 0} (v : A) (k : ℕ) → k ≤ 3 → number (told k v) ≡ k
+unfolding told
+told_number v zero h = refl
+told_number v (suc k) h = rw (ne_eqb (suc k) 0 (λ z. omega arith)) (number_back (suc k) h (λ z. omega arith))
 
 -- what is said of the value is said of the answer
 pub told_value : {A : Type 0} (v : A) (P : A → Type 0) → P v → (k : ℕ) → IfOk (told k v) P
