@@ -1,5 +1,5 @@
 #!/usr/bin/env bash
-# Header, example, tests and the stack of every call, in C. The library is in FINDER_LIB_DIR, else where `tools/build cabinet` puts it.
+# Header, what the library asks for, example, tests and the stack of every call, in C. The library is in FINDER_LIB_DIR, else where `tools/build cabinet` puts it.
 set -euo pipefail
 cd "$(dirname "$0")"
 library=${FINDER_LIB_DIR:-../../target/staticlib}/libcabinet.a
@@ -14,6 +14,11 @@ for standard in c++98 c++17; do
     g++ -std=$standard "${warnings[@]}" -fsyntax-only -x c++ ../../include/finder.h
 done
 echo "c header: C99, C11, C++98, C++17"
+
+# What a cabinet's own C library has to bring.
+asked=$(nm -u "$library" | awk '$1 == "U" { print $2 }' | sort -u)
+[ "$asked" = memset ] || { echo "the library asks for other than memset alone: $asked"; exit 1; }
+echo "c library: asks for memset alone"
 
 gcc -std=c99 "${warnings[@]}" -I../../include example.c "$library" -o "$made/example"
 diff <("$made/example") - <<'SHOWN'

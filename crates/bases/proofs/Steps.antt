@@ -1,21 +1,12 @@
 -- A copy of a column's rows has that column's rows. Assumes nothing.
-use Rattle.std.proofs.Common.{◌≡◌, refl, sym, ap, ◌∙◌, List, ◌++◌, ℕ, ◌<◌, ◌≤◌, arith, length, get_or, take, drop, length-take-le, get_or-take, ext_get_or}
+use Rattle.std.proofs.Common.{◌≡◌, refl, sym, ◌∙◌, List, ℕ, length, get_or}
 use Rattle.words.specs.Tables.{Column, written}
-use Rattle.words.proofs.Tables.{Room, Holds, written_holds, written_same, laid_over, length_tabulate, get_or_tabulate}
+use Rattle.words.proofs.Tables.{Room, Holds, written_holds, written_same, laid_over}
 use Rattle.bases.specs.Copies.{copy_row}
 
-copy_row_lem : (t x : List ℕ) (r : ℕ) → get_or t r 0 ≡ copy_row t x r
+pub copy_row_lem : (t x : List ℕ) (r : ℕ) → get_or t r 0 ≡ copy_row t x r
 unfolding copy_row
 copy_row_lem t x r = refl
-
--- the first rows of one table, put in the place of another's
-pub copied_rows : (t x s : List ℕ) {u : List ℕ} → length x ≤ length t → u ≡ take (length x) t → u ++ drop (length x) s ≡ written (copy_row t x) (length x) s
-unfolding written
-copied_rows t x s h e =
-    let n : length (take (length x) t) ≡ length x = length-take-le (length x) t h in
-    ap (λ (y : List ℕ). y ++ drop (length x) s) (e ∙ ext_get_or 0 (take (length x) t) _ (n ∙ sym (length_tabulate (copy_row t x) (length x))) (λ r l.
-    let k : r < length x = omega arith in
-    get_or-take (length x) t r 0 k ∙ copy_row_lem t x r ∙ sym (get_or_tabulate (copy_row t x) (length x) r k)))
 
 module _ (f : Column) (x b : List ℕ) where
   pub copied : (c : List ℕ) {d : List ℕ} → Holds f x b → d ≡ written (copy_row b x) (length x) c → d ≡ written (f x) (length x) c

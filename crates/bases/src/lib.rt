@@ -19,13 +19,14 @@ pub struct Bases<'a> {
     pub ghost covers: { Holds cover_row x.now cover.now },
 }
 
-// Copies the rows of one table of x into another.
+// Copies the rows of one table of x into another. Row by row: `copy_from_slice` would be a call of the C library's `memmove`, which the archive for C asks for nowhere else.
 fn copy(x: &[u8], from: &[u16], to: &mut [u16])
     requires { (length x.now ≤ length from.now) × Room x.now to.old }
     ensures { to.new ≡ written (copy_row from.now x.now) (length x.now) to.old }
 {
-    let n = x.len();
-    to[..n].copy_from_slice(&from[..n]);
+    for r in 0..x.len() {
+        to[r] = from[r];
+    }
 }
 
 // The border table of x, then its cover table, with two arrays lent for the cover table's tree.

@@ -1,6 +1,6 @@
 // Floor 4: the C face. Each call of floor 3 under a C name, with the same promise; a part is answered as its start and its length. C has no `Result`, so here
 // the number stands beside the value.
-#![tactic(auto, using(crate::proofs::Faces::faces), unfolding(words::specs::Answers::accepted, words::specs::Answers::broken, words::specs::Answers::listed, words::specs::PlantFile::symbols, crate::specs::Faces::covers_of, crate::specs::Faces::pattern_span, crate::specs::Faces::file_span))]
+#![tactic(auto, using(crate::proofs::Faces::faces), unfolding(words::specs::Answers::accepted, words::specs::Answers::answer, words::specs::Answers::broken, words::specs::Answers::listed, words::specs::Answers::normal_answer, words::specs::Answers::breakdown_answer, words::specs::Answers::weighed_answer, ceilings::specs::Ceilings::ceiling_answer, refusals::specs::Numbers::told, words::specs::PlantFile::symbols, crate::specs::Faces::covers_of, crate::specs::Faces::pattern_span, crate::specs::Faces::file_span))]
 
 ghost use Rattle.std.specs.Prelude.{◌≡◌, [], ◌∷◌};
 ghost use Rattle.words.specs.Tables.{border_row, prefix_row, cover_row};

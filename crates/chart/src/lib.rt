@@ -5,11 +5,14 @@
 
 ghost use Rattle.std.specs.Prelude.{◌≤◌, ◌<◌, length};
 ghost use Rattle.words.specs.Refusals.{longest};
+ghost use Rattle.pen.specs.Pens.{Keeps};
 
 use pen::Pen;
 use strokes::Strip;
 
-fn sheet(pen: &mut Pen, n: usize) {
+fn sheet(pen: &mut Pen, n: usize)
+    ensures { Keeps pen.old pen.new }
+{
     pen.put(
         b"<svg xmlns='http://www.w3.org/2000/svg' viewBox='0 0 1200 876' width='1200' height='876' role='img'>
 <title>Log of a CO&#8322; head</title>
@@ -67,6 +70,7 @@ fn thickness(n: usize) -> usize {
 // The readings.
 fn line(pen: &mut Pen, x: &[u8])
     requires { 0 < length x.now }
+    ensures { Keeps pen.old pen.new }
 {
     pen.put(
         b"<path class='readings' clip-path='url(#plot)' stroke-width='",
@@ -89,7 +93,9 @@ const TOP: Strip = Strip {
 };
 
 // What is at the ceiling, in red.
-fn stuck(pen: &mut Pen, x: &[u8]) {
+fn stuck(pen: &mut Pen, x: &[u8])
+    ensures { Keeps pen.old pen.new }
+{
     pen.say(b"<path class='stuck' d='");
     strokes::enclose_runs(pen, x, words::CEILING, PLOT);
     pen.say(b"'/>\n<path class='ceiling' d='M0 3000H100000'/>\n<path class='top' d='");
@@ -100,6 +106,7 @@ fn stuck(pen: &mut Pen, x: &[u8]) {
 // How the pattern of length q lies in the log; nothing where there is none.
 fn lanes(pen: &mut Pen, x: &[u8], q: usize)
     requires { length x.now ≤ longest }
+    ensures { Keeps pen.old pen.new }
 {
     if q == 0 {
         return;
@@ -109,7 +116,9 @@ fn lanes(pen: &mut Pen, x: &[u8], q: usize)
     marked(pen, &marks[..x.len()], q);
 }
 
-fn marked(pen: &mut Pen, marks: &[u8], q: usize) {
+fn marked(pen: &mut Pen, marks: &[u8], q: usize)
+    ensures { Keeps pen.old pen.new }
+{
     pen.say(b"<path class='pattern' d='");
     strokes::occurrences(pen, marks, q);
     pen.say(b"'/>\n<path class='missed' d='");
@@ -117,7 +126,9 @@ fn marked(pen: &mut Pen, marks: &[u8], q: usize) {
     pen.say(b"'/>\n");
 }
 
-fn axis(pen: &mut Pen, n: usize) {
+fn axis(pen: &mut Pen, n: usize)
+    ensures { Keeps pen.old pen.new }
+{
     pen.say(b"<g class='ticks'>\n");
     strokes::labels(pen, n);
     pen.say(b"</g>\n</g>\n");
@@ -125,6 +136,7 @@ fn axis(pen: &mut Pen, n: usize) {
 
 pub fn draw(pen: &mut Pen, x: &[u8], q: usize)
     requires { (0 < length x.now) × (length x.now ≤ longest) }
+    ensures { Keeps pen.old pen.new }
 {
     sheet(pen, x.len());
     line(pen, x);
@@ -134,7 +146,9 @@ pub fn draw(pen: &mut Pen, x: &[u8], q: usize)
 }
 
 // What stands at the lanes: the best pattern, of length q, covers count of n readings.
-pub fn name_lanes(pen: &mut Pen, q: usize, count: usize, n: usize) {
+pub fn name_lanes(pen: &mut Pen, q: usize, count: usize, n: usize)
+    ensures { Keeps pen.old pen.new }
+{
     if q == 0 {
         pen.say(
             b"<text class='note' x='160' y='544'>No pattern: no first part of the log comes again at its end.</text>\n",

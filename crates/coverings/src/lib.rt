@@ -41,6 +41,7 @@ fn chain_length(x: &[u8], cover: &[u16]) -> usize
 }
 
 // Writes the k covers of x into the first entries of t, from the longest down.
+#[tactic(auto, using(crate::proofs::Lists::placed_cover))]
 fn write_chain(x: &[u8], cover: &[u16], k: usize, t: &mut [u16])
     requires { Room x.now t.old × Holds cover_row x.now cover.now × (0 < length x.now) × (k ≡ length (cover_list eqb x.now)) }
     ensures { t.new ≡ cover_list eqb x.now ++ drop (length (cover_list eqb x.now)) t.old }

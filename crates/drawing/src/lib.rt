@@ -1,6 +1,8 @@
 // Floor 4: a log as a picture, in SVG of a fixed size, whatever the log's length.
 #![tactic(auto)]
 
+ghost use Rattle.pen.specs.Pens.{Keeps};
+
 use legend::Findings;
 use pen::Pen;
 
@@ -11,7 +13,9 @@ pub const ROOM: usize = 96 * words::LONGEST;
 
 // The picture of a log with its report.
 #[tactic(auto, unfolding(words::specs::Refusals::log_no, words::specs::Refusals::first_no))]
-pub fn draw(pen: &mut Pen, x: &[u8], r: &Findings) {
+pub fn draw(pen: &mut Pen, x: &[u8], r: &Findings)
+    ensures { Keeps pen.old pen.new }
+{
     if let Err(no) = refusals::log(x.len()) {
         return refuse(pen, no);
     }
@@ -24,7 +28,9 @@ pub fn draw(pen: &mut Pen, x: &[u8], r: &Findings) {
 }
 
 // The picture of a file that was refused.
-pub fn refuse(pen: &mut Pen, number: impl Into<u8>) {
+pub fn refuse(pen: &mut Pen, number: impl Into<u8>)
+    ensures { Keeps pen.old pen.new }
+{
     pen.put(
         b"<svg xmlns='http://www.w3.org/2000/svg' viewBox='0 0 400 100' width='400' height='100' role='img'>
 <title>Log of a CO&#8322; head</title>

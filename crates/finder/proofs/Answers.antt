@@ -8,8 +8,9 @@ use Rattle.words.proofs.Refusals.{Judged, log_judged, log_refused, table_judged,
 use Rattle.words.proofs.Locality.{take_alike, normal_local, covers_local, weighed_local}
 use Rattle.words.proofs.Breakdowns.{normal_len}
 use Rattle.words.proofs.CoverLists.{cover_list_le}
+use Rattle.refusals.proofs.Numbers.{some_number, known}
 use Rattle.windowed.specs.Within.{Within}
-use Rattle.finder.proofs.Patterns.{pattern_cut, cut_length}
+use Rattle.finder.proofs.Patterns.{pattern_cut, cut_length, cut_within}
 
 -- ---- the lent tables
 
@@ -88,4 +89,4 @@ module _ (x : List ℕ) (i q : ℕ) (z : cover_test_no (length x) i q ≡ 0) whe
 
 -- ---- all of these, and what is read off the best pattern: with them the check proves every call by itself
 
-pub ruleset accepted = (room_lent, rooms_lent, list_lent, list_fits, window_lent, log_judged, log_short, log_first, front_length, front_judged, front_normal, front_weighed, normal_len, test_length, test_lent, test_front, pattern_cut, cut_length)
+pub ruleset accepted = (room_lent, rooms_lent, list_lent, list_fits, window_lent, log_judged, log_short, log_first, front_length, front_judged, front_normal, front_weighed, normal_len, test_length, test_lent, test_front, pattern_cut, cut_length, cut_within, some_number, known)

@@ -61,3 +61,7 @@ module _ (x : List ℕ) (r : Result ℕ Refusal) (e : pattern_of r ≡ A.pattern
 
   pub cut_length : result_unwrap_or r 0 ≡ length (take (result_unwrap_or r 0) x)
   cut_length = rw (length_told r) (sym (length-take-le (pattern_of r).len x (pattern_within x e)))
+
+  -- it lies within the log
+  pub cut_within : result_unwrap_or r 0 ≤ length x
+  cut_within = rw (length_told r) (pattern_within x e)

@@ -15,7 +15,7 @@ use Rattle.words.proofs.Refusals.{unique}
 use Rattle.ceilings.specs.declared.Ceiling.{Ceiling}
 use Rattle.ceilings.specs.Ceilings.{ceiling_answer}
 use Rattle.refusals.specs.declared.Refusal.{Refusal}
-use Rattle.refusals.specs.Numbers.{number, stands_for}
+use Rattle.refusals.specs.Numbers.{number, stands_for, told}
 use Rattle.refusals.proofs.Numbers.{some_number, one_refusal, stands_for_one}
 use Rattle.finder.specs.Told.{written_of, weighing_of, listed_of, normal_of, test_of, weighed_of, breakdown_of, pattern_of, ceiling_of}
 
@@ -120,3 +120,47 @@ one_parts = one_struct (λ k. A.broken k [])
 
 pub one_head : (r s : Result Ceiling Refusal) → number r ≡ number s → ceiling_of r ≡ ceiling_of s → r ≡ s
 one_head = one_struct (λ k. record { number = k; held = 0; ceiling = 0 })
+
+-- ---- the whole of a call: its clauses allow one answer in Rust, and one state of every lent table
+
+module _ {V B : Type 0} (read : Result V Refusal → B) (one : (r s : Result V Refusal) → read r ≡ read s → r ≡ s) where
+  one_outcome : {o : A.Outcome B} {r s : Result V Refusal} {t u : List (List ℕ)}
+      → record { answer = read r; tables = t } ≡ o → record { answer = read s; tables = u } ≡ o → (r ≡ s) × (t ≡ u)
+  one_outcome {o} {r} {s} a b = let e = unique a b in (one r s (ap (λ (p : A.Outcome B). p.answer) e), ap (λ (p : A.Outcome B). p.tables) e)
+
+-- border_table, prefix_table and cover_table, with their columns
+module _ (f : Column) (x t : List ℕ) {r s : Result (Unit {0}) Refusal} {ts us : List (List ℕ)} where
+  pub one_table_result : record { answer = written_of r; tables = ts } ≡ A.table_outcome f x t
+      → record { answer = written_of s; tables = us } ≡ A.table_outcome f x t → (r ≡ s) × (ts ≡ us)
+  one_table_result = one_outcome written_of one_written
+
+module _ (x b c : List ℕ) {r s : Result ℕ Refusal} {ts us : List (List ℕ)} where
+  pub one_enhanced_result : record { answer = weighing_of r; tables = ts } ≡ A.enhanced_outcome x b c
+      → record { answer = weighing_of s; tables = us } ≡ A.enhanced_outcome x b c → (r ≡ s) × (ts ≡ us)
+  one_enhanced_result = one_outcome weighing_of one_weighing
+
+-- left_covers and left_seeds, with their columns
+module _ (f g : Column) (x b c : List ℕ) {r s : Result (Unit {0}) Refusal} {ts us : List (List ℕ)} where
+  pub one_pair_result : record { answer = written_of r; tables = ts } ≡ A.pair_outcome f g x b c
+      → record { answer = written_of s; tables = us } ≡ A.pair_outcome f g x b c → (r ≡ s) × (ts ≡ us)
+  one_pair_result = one_outcome written_of one_written
+
+module _ (x : List ℕ) (a m : ℕ) (b p c e k : List ℕ) {r s : Result ℕ Refusal} {ts us : List (List ℕ)} where
+  pub one_window_result : record { answer = weighing_of r; tables = ts } ≡ A.window_outcome x a m b p c e k
+      → record { answer = weighing_of s; tables = us } ≡ A.window_outcome x a m b p c e k → (r ≡ s) × (ts ≡ us)
+  one_window_result = one_outcome weighing_of one_weighing
+
+module _ (x t : List ℕ) {r s : Result ℕ Refusal} {ts us : List (List ℕ)} where
+  pub one_list_result : record { answer = listed_of r; tables = ts } ≡ A.cover_list_outcome x t
+      → record { answer = listed_of s; tables = us } ≡ A.cover_list_outcome x t → (r ≡ s) × (ts ≡ us)
+  one_list_result = one_outcome listed_of one_listed
+
+-- normal_form, weighed_list, breakdown and ceiling, with their number and value
+pub one_told_result : {V : Type 0} (k : ℕ) (v : V) {r s : Result V Refusal} → r ≡ told k v → s ≡ told k v → r ≡ s
+one_told_result k v = unique
+
+pub one_test_result : (x : List ℕ) (i q : ℕ) {r s : Result Bool Refusal} → test_of r ≡ A.cover_test_answer x i q → test_of s ≡ A.cover_test_answer x i q → r ≡ s
+one_test_result x i q a b = one_told _ _ (unique a b)
+
+pub one_length_result : (x : List ℕ) {r s : Result ℕ Refusal} → pattern_of r ≡ A.pattern_answer x → pattern_of s ≡ A.pattern_answer x → r ≡ s
+one_length_result x a b = one_found _ _ (unique a b)

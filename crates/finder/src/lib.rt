@@ -1,14 +1,15 @@
 // Floor 3: the calls. Each takes every log and every lent table, refuses in the order of `refusals`, and hands an accepted log to floor 2.
-#![tactic(auto, using(crate::proofs::Answers::accepted), unfolding(words::specs::Answers::outcome, words::specs::Answers::answer, words::specs::Answers::accepted, words::specs::Answers::rooms, words::specs::Answers::column, words::specs::Answers::middle, words::specs::Answers::weighing, words::specs::Answers::table_outcome, words::specs::Answers::pair_outcome, words::specs::Answers::enhanced_outcome, words::specs::Answers::window_outcome, words::specs::Answers::cover_list_outcome, words::specs::Answers::normal_answer, words::specs::Answers::breakdown_answer, words::specs::Answers::cover_test_answer, words::specs::Answers::weighed_answer, words::specs::Answers::pattern_answer, words::specs::Answers::best_pattern_no, ceilings::specs::Ceilings::ceiling_answer))]
+#![tactic(auto, using(crate::proofs::Answers::accepted), unfolding(words::specs::Answers::outcome, words::specs::Answers::answer, words::specs::Answers::accepted, words::specs::Answers::rooms, words::specs::Answers::column, words::specs::Answers::middle, words::specs::Answers::weighing, words::specs::Answers::table_outcome, words::specs::Answers::pair_outcome, words::specs::Answers::enhanced_outcome, words::specs::Answers::window_outcome, words::specs::Answers::cover_list_outcome, words::specs::Answers::normal_answer, words::specs::Answers::breakdown_answer, words::specs::Answers::cover_test_answer, words::specs::Answers::weighed_answer, words::specs::Answers::pattern_answer, words::specs::Answers::best_pattern_no, refusals::specs::Numbers::told))]
 
-ghost use Rattle.std.specs.Prelude.{◌≡◌, [], ◌∷◌, length, IfOk};
+ghost use Rattle.std.specs.Prelude.{◌≡◌, [], ◌∷◌, eqb, length};
+ghost use Rattle.words.specs.Words.{normal, weighed, breakdown, limit};
 ghost use Rattle.words.specs.Tables.{border_row, prefix_row, cover_row};
 ghost use Rattle.words.specs.Refusals.{log_no, table_no, prefix_no};
 ghost use Rattle.words.specs.Answers as Answers;
-ghost use Rattle.ceilings.specs.Ceilings.{ceiling_answer};
+ghost use Rattle.ceilings.specs.Ceilings as Ceilings;
 ghost use Rattle.repeats.specs.Repeats.{left_cover_row, left_count_row, left_seed_row, seed_count_row};
-ghost use Rattle.refusals.specs.Numbers.{number};
-ghost use Rattle.finder.specs.Told.{written_of, weighing_of, listed_of, normal_of, test_of, weighed_of, breakdown_of, pattern_of, ceiling_of};
+ghost use Rattle.refusals.specs.Numbers.{number, told};
+ghost use Rattle.finder.specs.Told.{written_of, weighing_of, listed_of, test_of, pattern_of};
 
 use refusals::Refusal;
 
@@ -78,8 +79,7 @@ pub fn left_seeds(x: &[u8], best: &mut [u16], count: &mut [u16]) -> Result<(), R
 
 // The normal form of the first i readings, with their number.
 pub fn normal_form(x: &[u8], i: usize) -> Result<words::Part, Refusal>
-    ensures form { normal_of result ≡ Answers.normal_answer x.now i }
-    ensures len { IfOk result (λ p. p.len ≡ i) }
+    ensures { result ≡ told (prefix_no (length x.now) i) (normal eqb x.now i) }
 {
     refusals::prefix(x.len(), i)?;
     Ok(judged::normal(&x[..i]))
@@ -95,8 +95,7 @@ pub fn cover_test(x: &[u8], i: usize, q: usize) -> Result<bool, Refusal>
 
 // The weighed list of the first i readings.
 pub fn weighed_list(x: &[u8], i: usize) -> Result<words::Weighed, Refusal>
-    ensures list { weighed_of result ≡ Answers.weighed_answer x.now i }
-    ensures refusal { number result ≡ prefix_no (length x.now) i }
+    ensures { result ≡ told (prefix_no (length x.now) i) (Answers.listed 0 (weighed eqb x.now i) (limit i)) }
 {
     refusals::prefix(x.len(), i)?;
     Ok(judged::weighed(&x[..i]))
@@ -106,8 +105,7 @@ pub fn weighed_list(x: &[u8], i: usize) -> Result<words::Weighed, Refusal>
 
 // The breakdown of x.
 pub fn breakdown(x: &[u8]) -> Result<words::Breakdown, Refusal>
-    ensures parts { breakdown_of result ≡ Answers.breakdown_answer x.now }
-    ensures refusal { number result ≡ log_no (length x.now) }
+    ensures { result ≡ told (log_no (length x.now)) (Answers.broken 0 (breakdown eqb x.now Answers.breakdown_places (length x.now))) }
 {
     refusals::log(x.len())?;
     Ok(judged::breakdown(x))
@@ -149,8 +147,7 @@ pub fn best_pattern(x: &[u8]) -> &[u8]
 
 // How many readings of x are at the ceiling, and whether the head is held there now.
 pub fn ceiling(x: &[u8]) -> Result<ceilings::Ceiling, Refusal>
-    ensures head { ceiling_of result ≡ ceiling_answer x.now }
-    ensures refusal { number result ≡ log_no (length x.now) }
+    ensures { result ≡ told (log_no (length x.now)) (Ceilings.ceiling_of x.now) }
 {
     refusals::log(x.len())?;
     Ok(ceilings::of(x))

@@ -3,7 +3,7 @@
 
 ghost use Rattle.std.specs.Prelude.{◌≡◌, ◌++◌, length};
 ghost use Rattle.words.proofs.Refusals.{Judged};
-ghost use Rattle.lines.specs.Text.{Fits};
+ghost use Rattle.lines.specs.Text.{page, Fits};
 ghost use Rattle.reporting.specs.Texts.{file_text, rows_room};
 ghost use Rattle.left_text.specs.Lefts as Lefts;
 
@@ -13,9 +13,10 @@ use std::io::Read;
 
 // Puts the whole text of an accepted log.
 fn put(x: &[u8], text: &mut Text)
-    requires { Judged (length x.now) × Fits text.old rows_room }
-    ensures said { text.new.said ≡ text.old.said ++ Lefts.left_text x.now }
-    ensures room { text.new.room ≡ text.old.room }
+    requires { Judged (length x.now) × Fits (page text.old) rows_room }
+    ensures said { (page text.new).said ≡ (page text.old).said ++ Lefts.left_text x.now }
+    ensures room { (page text.new).room ≡ (page text.old).room }
+    ensures buffer { (page text.new).buffer ≡ (page text.old).buffer }
 {
     let [mut cover, mut count, mut seed, mut reach] = [[0u16; words::LONGEST]; 4];
     left_covers::rows(x, &mut cover, &mut count);
@@ -25,9 +26,10 @@ fn put(x: &[u8], text: &mut Text)
 
 // The text of a file.
 pub fn file_text(f: &[u8], text: &mut Text)
-    requires { Fits text.old rows_room }
-    ensures said { text.new.said ≡ text.old.said ++ file_text Lefts.left_text f.now }
-    ensures room { text.new.room ≡ text.old.room }
+    requires { Fits (page text.old) rows_room }
+    ensures said { (page text.new).said ≡ (page text.old).said ++ file_text Lefts.left_text f.now }
+    ensures room { (page text.new).room ≡ (page text.old).room }
+    ensures buffer { (page text.new).buffer ≡ (page text.old).buffer }
 {
     if let Some(x) = reporting::accepted(f, text) {
         put(x, text);

@@ -3,6 +3,7 @@
 
 ghost use Rattle.std.specs.Prelude.{◌≤◌, length};
 ghost use Rattle.words.specs.Refusals.{longest};
+ghost use Rattle.pen.specs.Pens.{Keeps};
 
 use ceilings::Ceiling;
 use pen::Pen;
@@ -45,6 +46,7 @@ fn frame(x: &[u8], ceiling: u16) -> (&'static [u8], &'static [u8]) {
 // The band's words in their frame.
 pub fn alarm(pen: &mut Pen, x: &[u8], ceiling: u16)
     requires { length x.now ≤ longest }
+    ensures { Keeps pen.old pen.new }
 {
     let (before, after) = frame(x, ceiling);
     pen.say(before);
@@ -55,7 +57,9 @@ pub fn alarm(pen: &mut Pen, x: &[u8], ceiling: u16)
 // ---- the report: each line after its meaning, which stands to the right of it
 
 // The numbers of a list, at most `most` of them, and how many more there are.
-fn list<T: Copy + Into<usize>>(pen: &mut Pen, t: &[T], most: usize) {
+fn list<T: Copy + Into<usize>>(pen: &mut Pen, t: &[T], most: usize)
+    ensures { Keeps pen.old pen.new }
+{
     for n in t.iter().take(most) {
         pen.put(b" ", (*n).into());
     }
@@ -66,14 +70,18 @@ fn list<T: Copy + Into<usize>>(pen: &mut Pen, t: &[T], most: usize) {
 }
 
 // A line with the first numbers of a list.
-fn line<T: Copy + Into<usize>>(pen: &mut Pen, head: &[u8], t: &[T], most: usize) {
+fn line<T: Copy + Into<usize>>(pen: &mut Pen, head: &[u8], t: &[T], most: usize)
+    ensures { Keeps pen.old pen.new }
+{
     pen.say(head);
     list(pen, t, most);
     pen.say(b"</tspan></text>\n");
 }
 
 // A line has room for six lengths of four digits; and for every weighed list, since each of its lengths is less than half of the one before.
-fn patterns(pen: &mut Pen, r: &Findings) {
+fn patterns(pen: &mut Pen, r: &Findings)
+    ensures { Keeps pen.old pen.new }
+{
     line(
         pen,
         b"<text class='note' x='660' y='712'>length that repeats, readings left over, times</text>
@@ -105,7 +113,9 @@ fn patterns(pen: &mut Pen, r: &Findings) {
 }
 
 // The report of a log of n readings.
-pub fn report(pen: &mut Pen, n: usize, r: &Findings) {
+pub fn report(pen: &mut Pen, n: usize, r: &Findings)
+    ensures { Keeps pen.old pen.new }
+{
     line(
         pen,
         b"<text class='note' x='660' y='684'>readings in the log</text>

@@ -1,7 +1,9 @@
 -- Lines of text, in ASCII: a head, then numbers in decimal digits, each after a space. Assumes nothing.
-use Rattle.std.specs.Prelude.{cond, ◌≡◌, List, [], ◌∷◌, ◌++◌, ℕ, zero, suc, ◌+◌, ◌/◌, ◌%◌, ◌≤◌, ltb, length, take}
+use Rattle.std.specs.Prelude.{cond, ◌≡◌, List, [], ◌∷◌, ◌++◌, ℕ, zero, suc, ◌+◌, ◌/◌, ◌%◌, ◌≤◌, ltb, length, take, drop}
+use Rattle.std.specs.Borrow.{GName}
 use Prim.Native.String.{String}
 use Prim.Native.Char.{code}
+use Rattle.lines.specs.declared.Text.{Text}
 
 -- a word's letters
 abbrev pub bytes : String → List ℕ
@@ -39,11 +41,16 @@ tail l = fields l ++ (10 ∷ [])
 unfoldable pub line : List ℕ → List ℕ → List ℕ
 line head l = head ++ tail l
 
--- a text in the making: what it says so far, how many bytes its buffer has, and what stands in it behind the text
+-- a text in the making: what it says so far, how many bytes its buffer has, what stands in it behind the text, and which buffer that is: the name of its loan
 pub record Page : Type 0 where
   pub said : List ℕ
   pub room : ℕ
   pub rest : List ℕ
+  pub buffer : GName
+
+-- that of the program's text: whoever lent the buffer finds in it afterwards what is said, and behind that the rest
+unfoldable pub page : Text → Page
+page t = record { said = take t.len t.bytes.now; room = length t.bytes.now; rest = drop t.len t.bytes.now; buffer = t.bytes.ghost_name }
 
 -- there is room for n bytes more
 abbrev pub Fits : Page → ℕ → Type 0

@@ -43,3 +43,8 @@ pub record Said (out : List ℕ) (p : Place) (text out' : List ℕ) (p' : Place)
 pub record Wrote (p : Pen) (text : List ℕ) (p' : Pen) : Type 0 where
   pub buffer : p'.out.ghost_name ≡ p.out.ghost_name
   pub said : Said p.out.now p.place text p'.out.now p'.place
+
+-- what any call leaves of a pen: it is still in its buffer, which keeps its length
+pub record Keeps (p p' : Pen) : Type 0 where
+  pub buffer : p'.out.ghost_name ≡ p.out.ghost_name
+  pub room : length p'.out.now ≡ length p.out.now

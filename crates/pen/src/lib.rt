@@ -22,6 +22,18 @@ impl Place {
     {
         self.fits && self.at <= room && n <= room - self.at
     }
+
+    // The text in this buffer, or the empty part where it is not whole.
+    #[tactic(auto, unfolding(crate::specs::Pens::text_of, crate::specs::Pens::takes))]
+    pub fn text(self, out: &[u8]) -> &[u8]
+        ensures { result.now ≡ Pens.text_of out.now self }
+    {
+        if self.takes(out.len(), 0) {
+            &out[..self.at]
+        } else {
+            &out[..0]
+        }
+    }
 }
 
 #[derive(Drop)]
@@ -87,10 +99,9 @@ impl<'a> Pen<'a> {
     }
 
     // The text, or the empty part where it is not whole.
-    #[tactic(auto, unfolding(crate::specs::Pens::text_of))]
     pub fn text(&self) -> &[u8]
         ensures { result.now ≡ Pens.text_of self.now.out.now self.now.place }
     {
-        self.whole().unwrap_or(&[])
+        self.place.text(self.out)
     }
 }

@@ -3,6 +3,7 @@
 
 ghost use Rattle.std.specs.Prelude.{length};
 ghost use Rattle.words.proofs.Refusals.{Judged};
+ghost use Rattle.pen.specs.Pens.{Keeps};
 
 use legend::Findings;
 use pen::Pen;
@@ -16,6 +17,7 @@ fn front(t: &[u16], n: usize) -> &[u16] {
 // The picture of an accepted log.
 fn draw(pen: &mut Pen, x: &[u8])
     requires { Judged (length x.now) }
+    ensures { Keeps pen.old pen.new }
 {
     let mut covers = [0u16; words::LONGEST];
     let s = summary::of(x, &mut covers);
@@ -31,7 +33,9 @@ fn draw(pen: &mut Pen, x: &[u8])
 }
 
 // The picture of a file's bytes.
-pub fn picture_of(pen: &mut Pen, file: &[u8]) {
+pub fn picture_of(pen: &mut Pen, file: &[u8])
+    ensures { Keeps pen.old pen.new }
+{
     match logfile::read(file) {
         Ok(x) => draw(pen, x),
         Err(no) => drawing::refuse(pen, no),

@@ -21,7 +21,7 @@ fn print_file(rt: &HostRuntime, file: &[u8]) -> bool {
 
 fn make(rt: &HostRuntime, from: &mut impl Read) -> bool {
     let mut room = [0u8; logfile::LONGEST_FILE];
-    match ppm_lines::make_file(from, &mut room) {
+    match ppm_lines::make_part(from, &mut room) {
         Ok(file) => print_file(rt, file),
         Err(wrong) => rt.println(wrong).is_ok() || output::fail(rt),
     }

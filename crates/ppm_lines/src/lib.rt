@@ -1,7 +1,7 @@
 // Floor 4: from a text of readings in whole ppm, one a line, to the plant's file.
 #![tactic(auto)]
 
-ghost use Rattle.std.specs.Prelude.{IfOk};
+ghost use Rattle.std.specs.Prelude.{◌≡◌, ◌≤◌, length, take, IfOk};
 ghost use Rattle.ppm_text.specs.Texts.{Made};
 ghost use Rattle.ppm_text.specs.States.{After};
 
@@ -56,21 +56,34 @@ fn read_text(from: &mut impl Read, file: &mut [u8; logfile::LONGEST_FILE]) -> Re
     Err(Wrong::Input)
 }
 
-// Reads a text to its end and makes its file, at the front of the room that is lent.
-pub fn make_file<'a>(
+// Reads a text to its end and makes its file, at the front of the room. Answers how long it is.
+pub fn make_file(
     from: &mut impl Read,
-    room: &'a mut [u8; logfile::LONGEST_FILE],
-) -> Result<&'a [u8], Wrong>
-    ensures { IfOk result (λ file. Made file.now) }
+    room: &mut [u8; logfile::LONGEST_FILE],
+) -> Result<usize, Wrong>
+    ensures within { IfOk result (λ n. n ≤ length room.new) }
+    ensures made { IfOk result (λ n. Made (take n room.new)) }
 {
     let s = read_text(from, room)?.end_text(room);
     match s.fault {
-        None => Ok(&room[..3 + s.readings]),
+        None => Ok(3 + s.readings),
         Some(fault) => Err(Wrong::Text {
             fault,
             line: s.number,
         }),
     }
+}
+
+// The same, with the file as that part of the room. No clause here can say what the room holds once the part is let go: `make_file` says it.
+pub fn make_part<'a>(
+    from: &mut impl Read,
+    room: &'a mut [u8; logfile::LONGEST_FILE],
+) -> Result<&'a [u8], Wrong>
+    ensures made { IfOk result (λ file. Made file.now) }
+    ensures place { IfOk result (λ file. file.ref_ptr ≡ room.entry.ref_ptr) }
+{
+    let n = make_file(from, room)?;
+    Ok(&room[..n])
 }
 
 // Writes a file: of some text, and one that the plant's reader accepts.
@@ -83,7 +96,7 @@ fn put(rt: &(impl Print + Eprint), file: &[u8])
 // From a text of readings to the plant's file. What is wrong is said on standard error.
 pub fn run(rt: &HostRuntime, from: &mut impl Read) {
     let mut room = [0u8; logfile::LONGEST_FILE];
-    match make_file(from, &mut room) {
+    match make_part(from, &mut room) {
         Ok(file) => put(rt, file),
         Err(wrong) => {
             let _ = rt.eprintln(wrong);

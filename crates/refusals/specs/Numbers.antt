@@ -1,5 +1,5 @@
 -- What an answer in Rust stands for in the document: a refusal for its number, no refusal for 0. Assumes nothing.
-use Rattle.std.specs.Prelude.{ℕ, Result, Ok, Err}
+use Rattle.std.specs.Prelude.{ℕ, Result, Ok, Err, cond, eqb}
 use Rattle.refusals.specs.declared.Refusal.{Refusal}
 use Rattle.refusals.specs.declared.Refusal.TheVariants.{Empty, Long, Place, Short, NoPattern, Version, File, Symbol}
 
@@ -23,3 +23,11 @@ number (Err r) = number_of r
 abbrev pub stands_for : {A B : Type 0} → (A → B) → (ℕ → B) → Result A Refusal → B
 stands_for made refusal (Ok v) = made v
 stands_for made refusal (Err r) = refusal (number_of r)
+
+-- the refusal that a number stands for
+unfoldable pub refusal_of : ℕ → Refusal
+refusal_of k = cond (eqb k 1) Empty (cond (eqb k 2) Long (cond (eqb k 3) Place (cond (eqb k 4) Short (cond (eqb k 5) NoPattern (cond (eqb k 6) Version (cond (eqb k 7) File Symbol))))))
+
+-- the answer in Rust of a call with this number: the value where it is 0, else the refusal that it stands for
+unfoldable pub told : {A : Type 0} → ℕ → A → Result A Refusal
+told code v = cond (eqb code 0) (Ok v) (Err (refusal_of code))

@@ -5,7 +5,7 @@ pub mod table;
 
 ghost use Rattle.std.specs.Prelude.{◌≡◌, ◌++◌, ℕ, List, length, IfNone, IfSome};
 ghost use Rattle.words.proofs.Refusals.{Judged};
-ghost use Rattle.lines.specs.Text.{Fits};
+ghost use Rattle.lines.specs.Text.{page, Fits};
 ghost use Rattle.facts.specs.Report.{line_room, report_room, report_text};
 ghost use Rattle.reporting.specs.Texts.{file_text, rows_room, rows_text};
 
@@ -14,9 +14,10 @@ use std::io::Read;
 
 // The symbols of a file. A refused one has none: its text is put.
 pub fn accepted<'f>(f: &'f [u8], text: &mut Text) -> Option<&'f [u8]>
-    requires { Fits text.old (line_room 1) }
-    ensures refused { IfNone result ((said : List ℕ → List ℕ) → text.new.said ≡ text.old.said ++ file_text said f.now) }
-    ensures room { text.new.room ≡ text.old.room }
+    requires { Fits (page text.old) (line_room 1) }
+    ensures refused { IfNone result ((said : List ℕ → List ℕ) → (page text.new).said ≡ (page text.old).said ++ file_text said f.now) }
+    ensures room { (page text.new).room ≡ (page text.old).room }
+    ensures buffer { (page text.new).buffer ≡ (page text.old).buffer }
     ensures judged { IfSome result (λ x. Judged (length x.now)) }
     ensures accepted { IfSome result (λ x. (said : List ℕ → List ℕ) → file_text said f.now ≡ said x.now) }
     ensures same { IfSome result (λ _. text.new ≡ text.old) }
@@ -32,9 +33,10 @@ pub fn accepted<'f>(f: &'f [u8], text: &mut Text) -> Option<&'f [u8]>
 
 // The text of the report on a file. This, the next and `left_text::file_text` are one shape: one function for them would state of its writer what their clauses say of theirs.
 pub fn report_text(f: &[u8], text: &mut Text)
-    requires { Fits text.old report_room }
-    ensures said { text.new.said ≡ text.old.said ++ file_text report_text f.now }
-    ensures room { text.new.room ≡ text.old.room }
+    requires { Fits (page text.old) report_room }
+    ensures said { (page text.new).said ≡ (page text.old).said ++ file_text report_text f.now }
+    ensures room { (page text.new).room ≡ (page text.old).room }
+    ensures buffer { (page text.new).buffer ≡ (page text.old).buffer }
 {
     if let Some(x) = accepted(f, text) {
         facts::report(x, text);
@@ -43,9 +45,10 @@ pub fn report_text(f: &[u8], text: &mut Text)
 
 // The text of the rows of a file.
 pub fn rows_text(f: &[u8], text: &mut Text)
-    requires { Fits text.old rows_room }
-    ensures said { text.new.said ≡ text.old.said ++ file_text rows_text f.now }
-    ensures room { text.new.room ≡ text.old.room }
+    requires { Fits (page text.old) rows_room }
+    ensures said { (page text.new).said ≡ (page text.old).said ++ file_text rows_text f.now }
+    ensures room { (page text.new).room ≡ (page text.old).room }
+    ensures buffer { (page text.new).buffer ≡ (page text.old).buffer }
 {
     if let Some(x) = accepted(f, text) {
         table::put(x, text);
@@ -59,7 +62,7 @@ pub fn run<F: FnOnce(&[u8], &mut Text)>(
     room: &mut [u8],
     say: F,
 ) -> bool
-    requires { (f : _) (t : _) → Fits t.now (length room.old) → F.pre say f t }
+    requires { (f : _) (t : _) → Fits (page t.now) (length room.old) → F.pre say f t }
 {
     let mut file = [0u8; logfile::FILE_ROOM];
     let n = input::read_full(from, &mut file);

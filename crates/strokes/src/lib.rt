@@ -6,6 +6,7 @@
 #![tactic(auto)]
 
 ghost use Rattle.std.specs.Prelude.{◌<◌, ◌≤◌, length};
+ghost use Rattle.pen.specs.Pens.{Keeps};
 
 use pen::Pen;
 
@@ -49,7 +50,9 @@ pub fn down(symbol: u8) -> usize {
 }
 
 // A box around the readings after the first a, up to the first e of n, if there are any.
-fn enclose(pen: &mut Pen, a: usize, e: usize, n: usize, strip: Strip) {
+fn enclose(pen: &mut Pen, a: usize, e: usize, n: usize, strip: Strip)
+    ensures { Keeps pen.old pen.new }
+{
     if e <= a {
         return;
     }
@@ -63,7 +66,9 @@ fn enclose(pen: &mut Pen, a: usize, e: usize, n: usize, strip: Strip) {
 }
 
 // A box around each run of v. After a run comes another reading, or none: the loop goes from run to run, and counts no index.
-pub fn enclose_runs(pen: &mut Pen, x: &[u8], v: u8, strip: Strip) {
+pub fn enclose_runs(pen: &mut Pen, x: &[u8], v: u8, strip: Strip)
+    ensures { Keeps pen.old pen.new }
+{
     let mut a = 0;
     while a < x.len() {
         let e = marks::end_of_run(x, v, a);
@@ -73,7 +78,9 @@ pub fn enclose_runs(pen: &mut Pen, x: &[u8], v: u8, strip: Strip) {
 }
 
 // The readings as steps: one wherever a reading differs from that before it.
-pub fn steps(pen: &mut Pen, x: &[u8]) {
+pub fn steps(pen: &mut Pen, x: &[u8])
+    ensures { Keeps pen.old pen.new }
+{
     for (k, pair) in (1..x.len()).zip(x.windows(2)) {
         if let [before, symbol] = pair
             && before != symbol
@@ -85,7 +92,9 @@ pub fn steps(pen: &mut Pen, x: &[u8]) {
 }
 
 // The occurrences of the first q readings, in two lanes by turns: the best pattern has no proper cover, so no three of its occurrences share a reading.
-pub fn occurrences(pen: &mut Pen, marks: &[u8], q: usize) {
+pub fn occurrences(pen: &mut Pen, marks: &[u8], q: usize)
+    ensures { Keeps pen.old pen.new }
+{
     let starts = marks
         .iter()
         .enumerate()
@@ -96,7 +105,9 @@ pub fn occurrences(pen: &mut Pen, marks: &[u8], q: usize) {
 }
 
 // The readings outside every occurrence.
-pub fn gaps(pen: &mut Pen, marks: &[u8]) {
+pub fn gaps(pen: &mut Pen, marks: &[u8])
+    ensures { Keeps pen.old pen.new }
+{
     enclose_runs(pen, marks, marks::OUTSIDE, MISSED);
 }
 
@@ -118,7 +129,9 @@ fn tick(n: usize) -> usize
 }
 
 // A tick and its number under the middle of reading k of n.
-fn label(pen: &mut Pen, k: usize, n: usize) {
+fn label(pen: &mut Pen, k: usize, n: usize)
+    ensures { Keeps pen.old pen.new }
+{
     if k == 0 || n < k {
         return;
     }
@@ -129,7 +142,9 @@ fn label(pen: &mut Pen, k: usize, n: usize) {
     pen.say(b"</text>\n");
 }
 
-pub fn labels(pen: &mut Pen, n: usize) {
+pub fn labels(pen: &mut Pen, n: usize)
+    ensures { Keeps pen.old pen.new }
+{
     let t = tick(n);
     for i in 1..11 {
         label(pen, i * t, n);

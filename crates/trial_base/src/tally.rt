@@ -4,12 +4,12 @@ use crate::line::{Unwritten, say};
 use std::fmt::Display;
 
 // `before` is how much of the kinds before differed. At the greatest number a count stays: it must not come round to 0.
-#[derive(Drop)]
+#[derive(Clone, Copy)]
 pub struct Tally {
-    tried: u64,
-    compared: u64,
-    different: u64,
-    before: u64,
+    pub tried: u64,
+    pub compared: u64,
+    pub different: u64,
+    pub before: u64,
     rt: HostRuntime,
 }
 

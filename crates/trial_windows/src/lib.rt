@@ -60,7 +60,7 @@ fn compare_answer(
 
 // How many rows the five tables have: more than the window needs, more but for one table that is a row too short, or exactly as many.
 #[derive(Clone, Copy, PartialEq, Eq, Debug)]
-enum Rooms {
+pub enum Rooms {
     More,
     Short(Column),
     Exact,
@@ -81,7 +81,13 @@ impl Rooms {
 }
 
 // A window of m readings after the first a.
-fn with_rooms(t: &mut Tally, c: Case, a: usize, m: usize, rooms: Rooms) -> Result<(), Unwritten> {
+pub fn with_rooms(
+    t: &mut Tally,
+    c: Case,
+    a: usize,
+    m: usize,
+    rooms: Rooms,
+) -> Result<(), Unwritten> {
     let [mut border, mut prefix, mut cover, mut best, mut count] = [[0u16; ROOM]; 5];
     let n = c.x.len();
     let end = a.wrapping_add(m);

@@ -1,6 +1,11 @@
--- `bases::copy` meets its contract. Assumes nothing.
-use Rattle.bases.proofs.Steps.{copied_rows}
+-- `bases::copy` meets its contract. The loop's invariant is `Rows`. Assumes nothing.
+use Rattle.std.proofs.Common.{rules}
+use Rattle.words.proofs.Tables.{rows_none, rows_more}
+use Rattle.bases.proofs.Steps.{copy_row_lem}
 use Rattle.bases.proofs.copy.Goals as goal
 
-pub returns : goal.returns
-returns c = copied_rows _ _ _ c.requires.0 c.copy_from_slice.ensures.after
+pub loop-r-init : goal.loop-r-init
+loop-r-init c = search (rules, rows_none)
+
+pub loop-r-preserved : goal.loop-r-preserved
+loop-r-preserved c = search (rules, rows_more, copy_row_lem)

@@ -10,4 +10,4 @@ pub field-requires : goal.field-requires
 field-requires c = search (rules, listed_room)
 
 pub loop-n-preserved : goal.loop-n-preserved
-loop-n-preserved c = listed_more c.loop-n.invariant c.from.ensures (search rules) c.loop-n-test.true c.field.ensures.said c.field.ensures.room
+loop-n-preserved c = listed_more c.loop-n.invariant c.from.ensures (search rules) c.loop-n-test.true c.field.ensures.said c.field.ensures.room c.field.ensures.buffer

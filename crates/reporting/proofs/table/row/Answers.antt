@@ -14,7 +14,7 @@ pub field-requires : goal.field-requires
 field-requires c = entry_room _ _ c.loop-column.invariant _ c.from.ensures (search rules) c.loop-column-test.true (search rules)
 
 pub loop-column-preserved : goal.loop-column-preserved
-loop-column-preserved c = entry_more _ _ c.loop-column.invariant _ c.from.ensures (search rules) c.loop-column-test.true c.field.ensures.said c.field.ensures.room
+loop-column-preserved c = entry_more _ _ c.loop-column.invariant _ c.from.ensures (search rules) c.loop-column-test.true c.field.ensures.said c.field.ensures.room c.field.ensures.buffer
 
 pub returns-clause-said : goal.returns-clause-said
 returns-clause-said c = row_said _ _ _ c.loop-column.invariant c.loop-column-test.false c.number.ensures.said c.end.ensures.said
