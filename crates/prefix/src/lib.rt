@@ -1,7 +1,7 @@
 // Floor 2: the prefix table of a log, by the stretch known to occur that reaches furthest right.
 #![tactic(auto)]
 
-ghost use Rattle.std.specs.Prelude.{◌≡◌, ◌+◌, ◌<◌, eqb, length, get_or};
+ghost use Rattle.std.specs.Prelude.{◌≡◌, ◌+◌, ◌-◌, ◌≤◌, ◌<◌, eqb, length, get_or};
 ghost use Rattle.words.specs.Tables.{prefix_row, written};
 ghost use Rattle.words.proofs.Tables.{Room, Filled};
 ghost use Rattle.words.proofs.Prefixes.{Reaches};
@@ -15,46 +15,45 @@ struct Reach {
     to: usize,
 }
 
-// The row at r, of which the first m readings are known to agree.
-fn scan(x: &[u8], r: usize, m: usize) -> usize
-    requires { Reaches eqb x.now r m }
-    ensures { result ≡ prefix_row x.now r }
+// Where the stretch that begins at r ends. Its readings up to `to` are known to agree.
+fn scan(x: &[u8], r: usize, to: usize) -> usize
+    requires { (r ≤ to) × Reaches eqb x.now r (to - r) }
+    ensures { result ≡ r + prefix_row x.now r }
 {
-    let most = x.len() - r;
-    for k in m..most {
-        if x[k] != x[r + k] {
+    for k in to..x.len() {
+        if x[k - r] != x[k] {
             return k;
         }
     }
-    most
+    x.len()
 }
 
-// The row at r with the stretch that begins there, of which the first m readings are known to agree.
-fn compare(x: &[u8], r: usize, m: usize) -> Reach
-    requires { Reaches eqb x.now r m × (0 < r) × (r < length x.now) }
+// The row at r with the stretch that begins there, of which the readings up to `to` are known to agree.
+fn compare(x: &[u8], r: usize, to: usize) -> Reach
+    requires { (r ≤ to) × Reaches eqb x.now r (to - r) × (0 < r) × (r < length x.now) }
     ensures { Reached x.now r result.row result.from result.to }
 {
-    let p = scan(x, r, m);
+    let end = scan(x, r, to);
     Reach {
-        row: p,
+        row: end - r,
         from: r,
-        to: r + p,
+        to: end,
     }
 }
 
 // The row at r, from the rows before it and the stretch s: inside the stretch an earlier row tells, past it readings are compared.
+// Two calls compare, where one with the later of the two places would do: so each has a loop of its own, and takes less time.
 fn step(x: &[u8], t: &[u16], r: usize, s: Reach) -> Reach
     requires { Filled prefix_row x.now t.now r × Stretch x.now r s.from s.to × (0 < r) }
     ensures { Reached x.now r result.row result.from result.to }
 {
-    if s.to <= r {
-        return compare(x, r, 0);
-    }
     let known = usize::from(t[r - s.from]);
-    if known < s.to - r {
+    if r + known < s.to {
         Reach { row: known, ..s }
+    } else if r < s.to {
+        compare(x, r, s.to)
     } else {
-        compare(x, r, s.to - r)
+        compare(x, r, r)
     }
 }
 

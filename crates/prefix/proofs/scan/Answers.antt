@@ -1,4 +1,4 @@
--- `prefix::scan` meets its contract. The loop's invariant: the first k readings occur after r. Assumes nothing.
+-- `prefix::scan` meets its contract. The loop's invariant: the readings from r up to k are the first ones again. Assumes nothing.
 use Rattle.prefix.proofs.Steps.{scan_stop, scan_end}
 use Rattle.prefix.proofs.scan.Goals as goal
 
