@@ -23,7 +23,7 @@ fn make(rt: &HostRuntime, from: &mut impl Read) -> bool {
     let mut room = [0u8; logfile::LONGEST_FILE];
     match ppm_lines::make_part(from, &mut room) {
         Ok(file) => print_file(rt, file),
-        Err(wrong) => rt.println(wrong).is_ok() || output::fail(rt),
+        Err(wrong) => wrong.say(&rt.stdout()).is_ok() || output::fail(rt),
     }
 }
 

@@ -41,6 +41,26 @@ impl fmt::Display for Wrong {
 
 impl Error for Wrong {}
 
+impl Wrong {
+    // Writes it as a line. A line's number, and what stands before and behind it, are written apart: a stream that takes no more keeps what it took.
+    pub fn say(self, to: &impl Print) -> io::Result<()> {
+        match self {
+            Wrong::Input
+            | Wrong::Text {
+                fault: Fault::Empty,
+                ..
+            } => to.println(self),
+            Wrong::Text { fault, line } => {
+                to.print("line ")?;
+                to.print(line)?;
+                to.print(": ")?;
+                to.print(fault)?;
+                to.print("\n")
+            }
+        }
+    }
+}
+
 // Reads to the end. A proved loop has to end, and nothing says that an input does: so the loop counts its turns, to a number that no run reaches.
 fn read_text(from: &mut impl Read, file: &mut [u8; logfile::LONGEST_FILE]) -> Result<State, Wrong>
     ensures { IfOk result (λ s. After s file.new) }
@@ -99,7 +119,7 @@ pub fn run(rt: &HostRuntime, from: &mut impl Read) {
     match make_part(from, &mut room) {
         Ok(file) => put(rt, file),
         Err(wrong) => {
-            let _ = rt.eprintln(wrong);
+            let _ = wrong.say(&rt.stderr());
         }
     }
 }

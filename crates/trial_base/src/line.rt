@@ -1,4 +1,4 @@
-// What the trial prints.
+// What the trial prints, piece by piece: after the first that cannot be written no other is tried.
 use std::fmt::Display;
 
 // A piece cannot be written. Standard error says so already, and no more is compared.
@@ -11,4 +11,10 @@ pub fn say(rt: &HostRuntime, piece: impl Display + Drop) -> Result<(), Unwritten
     } else {
         Err(Unwritten)
     }
+}
+
+// A number after a space.
+pub fn number(rt: &HostRuntime, n: u64) -> Result<(), Unwritten> {
+    say(rt, " ")?;
+    say(rt, n)
 }

@@ -1,6 +1,6 @@
 // How much of one kind was compared, and how much differed. The kind's name is printed before, so that the first difference stands in its line.
 use crate::calls::Call;
-use crate::line::{Unwritten, say};
+use crate::line::{Unwritten, number, say};
 use std::fmt::Display;
 
 // `before` is how much of the kinds before differed. At the greatest number a count stays: it must not come round to 0.
@@ -16,17 +16,17 @@ pub struct Tally {
 // The first twelve readings: the whole of a small log.
 fn readings(rt: &HostRuntime, x: &[u8]) -> Result<(), Unwritten> {
     for reading in x.iter().take(12) {
-        say(rt, format_args!(" {reading}"))?;
+        number(rt, u64::from(*reading))?;
     }
     Ok(())
 }
 
 fn tell(rt: &HostRuntime, call: Call, x: &[u8], row: usize) -> Result<(), Unwritten> {
-    let n = x.len();
-    say(
-        rt,
-        format_args!(" FIRST DIFFERENT: {call}, row {row}, length {n}:"),
-    )?;
+    say(rt, format_args!(" FIRST DIFFERENT: {call}, row"))?;
+    number(rt, row as u64)?;
+    say(rt, ", length")?;
+    number(rt, x.len() as u64)?;
+    say(rt, ":")?;
     readings(rt, x)?;
     say(rt, ";")
 }
@@ -76,17 +76,17 @@ impl Tally {
     // Ends the kind's line. What was tried is logs or files.
     pub fn end(&mut self, tried: &str) -> Result<(), Unwritten> {
         self.before = self.before.saturating_add(self.different);
-        say(
-            &self.rt,
-            format_args!(
-                " {} {tried}, {} comparisons, {} different\n",
-                self.tried, self.compared, self.different
-            ),
-        )
+        number(&self.rt, self.tried)?;
+        self.say(format_args!(" {tried},"))?;
+        number(&self.rt, self.compared)?;
+        self.say(" comparisons,")?;
+        number(&self.rt, self.different)?;
+        self.say(" different\n")
     }
 
     // The last line: what differed of all kinds.
     pub fn close(&self) -> Result<(), Unwritten> {
-        say(&self.rt, format_args!("{} different\n", self.before))
+        self.say(self.before)?;
+        self.say(" different\n")
     }
 }
