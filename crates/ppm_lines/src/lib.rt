@@ -42,7 +42,7 @@ impl fmt::Display for Wrong {
 impl Error for Wrong {}
 
 impl Wrong {
-    // Writes it as a line. A line's number, and what stands before and behind it, are written apart: a stream that takes no more keeps what it took.
+    // Writes it as a line: the text of `Display`. The number in it, and what stands on either side, are writes of their own, and where one fails those before it stand.
     pub fn say(self, to: &impl Print) -> io::Result<()> {
         match self {
             Wrong::Input
