@@ -104,21 +104,31 @@ put_put {a = a} {s = s} {t = t} {at = at} p q = record {
 pub record Listed (t : List ℕ) (before after : Page) (i : ℕ) : Type 0 where
   pub said : after.said ≡ before.said ++ fields (take i t)
   pub room : after.room ≡ before.room
-  pub buffer : after.buffer ≡ before.buffer
   pub short : length after.said ≤ length before.said + field_room * i
 
 pub listed_none : (t : List ℕ) (p : Page) → Listed t p p 0
 unfolding fields
-listed_none t p = record { said = sym (append-nil p.said); room = refl; buffer = refl; short = omega arith }
+listed_none t p = record { said = sym (append-nil p.said); room = refl; short = omega arith }
 
 module _ {t : List ℕ} {before after : Page} {i n : ℕ} (c : Listed t before after i) (e : n ≡ get_or t i 0) (s : n < 65536) (h : i < length t) where
   pub listed_room : length before.said + field_room * length t ≤ before.room → length after.said + (1 + length (decimal n)) ≤ after.room
   listed_room l = omega (arith, entry_le n s, c.short, c.room)
 
-  pub listed_more : {r : Page} → r.said ≡ after.said ++ field n → r.room ≡ after.room → r.buffer ≡ after.buffer → Listed t before r (i + 1)
-  listed_more f g b = record {
+  pub listed_more : {r : Page} → r.said ≡ after.said ++ field n → r.room ≡ after.room → Listed t before r (i + 1)
+  listed_more f g = record {
     said = rw (f, c.said, add-one, take-suc t i 0 h, fields_append, ← e, fields_one, append_assoc) refl;
     room = g ∙ c.room;
-    buffer = b ∙ c.buffer;
     short = omega (arith, c.short, entry_le n s, length_field n, length-append after.said (field n), ap length f);
   }
+
+-- the same in one buffer
+pub record ListedHere (t : List ℕ) (before after : Page) (i : ℕ) : Type 0 where
+  pub listed : Listed t before after i
+  pub buffer : after.buffer ≡ before.buffer
+
+pub listed_here_none : (t : List ℕ) (p : Page) → ListedHere t p p 0
+listed_here_none t p = record { listed = listed_none t p; buffer = refl }
+
+module _ {t : List ℕ} {before after : Page} {i n : ℕ} (c : ListedHere t before after i) (e : n ≡ get_or t i 0) (s : n < 65536) (h : i < length t) where
+  pub listed_here_more : {r : Page} → r.said ≡ after.said ++ field n → r.room ≡ after.room → r.buffer ≡ after.buffer → ListedHere t before r (i + 1)
+  listed_here_more f g b = record { listed = listed_more c.listed e s h f g; buffer = b ∙ c.buffer }

@@ -1,5 +1,5 @@
 -- What each way through the prefix table's functions comes to, on plain lists and numbers. Assumes nothing.
-use Rattle.std.proofs.Common.{◌≡◌, sym, ◌∙◌, List, ℕ, ◌+◌, ◌-◌, ◌≤◌, ◌<◌, arith, length, get_or, eqb, eq-eqb, eqb-true, w16, Fits}
+use Rattle.std.proofs.Common.{◌≡◌, sym, ◌∙◌, List, ℕ, ◌+◌, ◌-◌, ◌^◌, ◌≤◌, ◌<◌, arith, length, get_or, eqb, eq-eqb, eqb-true, w16, w64, Fits}
 use Rattle.prefix.specs.Stretch.{Stretch, Reached}
 use Rattle.words.specs.Tables.{prefix_row}
 use Rattle.words.specs.Refusals.{longest}
@@ -12,27 +12,46 @@ row_bound x r p e h = rw e (prefix_reaches eqb x r (omega arith)).within
 
 -- ---- `scan`
 
-module _ {x : List ℕ} {r k : ℕ} (h : r ≤ k) (c : Reaches eqb x r (k - r)) where
-  pub scan_stop : (get_or x (k - r) 0 ≡ get_or x k 0 → ⊥) → k ≡ r + prefix_row x r
-  scan_stop ne = let e = prefix_is eqb x r (k - r) c (λ _ q. ne (eqb-true _ _ q ∙ at x (omega arith))) in omega (arith, e, h)
+module _ {x : List ℕ} {r k : ℕ} (c : Reaches eqb x r k) where
+  pub scan_stop : (get_or x k 0 ≡ get_or x (r + k) 0 → ⊥) → k ≡ prefix_row x r
+  scan_stop ne = prefix_is eqb x r k c (λ _ e. ne (eqb-true _ _ e))
 
-  pub scan_end : length x ≤ k → length x ≡ r + prefix_row x r
-  scan_end u = let e = prefix_is eqb x r (k - r) c (λ l _. omega arith) in omega (arith, e, h, c.within)
+  pub scan_end : length x - r ≤ k → length x - r ≡ prefix_row x r
+  scan_end h = let e : length x - r ≡ k = omega arith in e ∙ prefix_is eqb x r k c (λ l _. omega arith)
+
+-- the same of k as a place of the log
+module _ {x : List ℕ} {r k : ℕ} (h : r ≤ k) (c : Reaches eqb x r (k - r)) where
+  pub stretch_stop : (get_or x (k - r) 0 ≡ get_or x k 0 → ⊥) → k ≡ r + prefix_row x r
+  stretch_stop ne = omega (arith, h, scan_stop c (λ e. ne (e ∙ at x (omega arith))))
+
+  pub stretch_end : length x ≤ k → length x ≡ r + prefix_row x r
+  stretch_end u = omega (arith, h, c.within, scan_end c (omega arith))
 
 -- ---- `compare`
 
-pub compare_done : (x : List ℕ) (r end : ℕ) → end ≡ r + prefix_row x r → 0 < r → r < length x → Reached x r (end - r) r end
-compare_done x r end e s h =
-    let w : end - r ≡ prefix_row x r = omega arith in record {
-      row = w;
-      stretch = record { later = s; left = omega arith; order = omega arith; reaches = rw w (prefix_reaches eqb x r (omega arith)) };
+pub compare_fits : (x : List ℕ) (r p : ℕ) → p ≡ prefix_row x r → r < length x → length x < 2 ^ 64 → Fits w64 (r + p)
+compare_fits x r p e h u = omega (arith, row_bound x r p e h)
+
+pub compare_done : (x : List ℕ) (r p : ℕ) → p ≡ prefix_row x r → 0 < r → r < length x → Reached x r p r (r + p)
+compare_done x r p e s h =
+    let w : r + p - r ≡ p = omega arith in record {
+      row = e;
+      stretch = record { later = s; left = omega arith; order = omega arith; reaches = rw (w, e) (prefix_reaches eqb x r (omega arith)) };
     }
+
+-- the same of where the stretch ends
+pub stretch_done : (x : List ℕ) (r end : ℕ) → end ≡ r + prefix_row x r → 0 < r → r < length x → Reached x r (end - r) r end
+stretch_done x r end e s h = let w : r + (end - r) ≡ end = omega arith in rw w at (compare_done x r (end - r) (omega arith) s h)
 
 -- ---- `step`
 
 module _ {x t : List ℕ} {r from to : ℕ} (f : Filled prefix_row x t r) (s : Stretch x r from to) where
-  pub step_none : Reaches eqb x r (r - r)
-  step_none = reaches_shorter eqb x r (r - r) 0 (reaches_none eqb x r (omega (arith, f.inside))) (omega arith)
+  pub step_none : Reaches eqb x r 0
+  step_none = reaches_none eqb x r (omega (arith, f.inside))
+
+  -- the same of r as a place of the log
+  pub step_anew : Reaches eqb x r (r - r)
+  step_anew = reaches_shorter eqb x r (r - r) 0 step_none (omega arith)
 
   module _ (z : ℕ) (e : z ≡ get_or t (r - from) 0) where
     back : r - from < r
@@ -45,8 +64,8 @@ module _ {x t : List ℕ} {r from to : ℕ} (f : Filled prefix_row x t r) (s : S
     known = rw is_row (prefix_reaches eqb x (r - from) (omega (arith, f.inside)))
 
     -- an earlier row that stays inside the stretch is this row too: the reading that stopped it stops this one
-    pub step_known : r + z < to → Reached x r z from to
-    step_known u = record {
+    pub step_inside : r + z < to → Reached x r z from to
+    step_inside u = record {
       row = prefix_is eqb x r z (reaches_inside x from to r z s.reaches s.left known (omega arith)) (λ l q.
           let one = same s.reaches.occurs (r - from + z) (omega (arith, s.left)) in
           let more = reaches_more eqb x (r - from) z known (omega (arith, s.left, l))
@@ -55,8 +74,16 @@ module _ {x t : List ℕ} {r from to : ℕ} (f : Filled prefix_row x t r) (s : S
       stretch = record { later = s.later; left = omega (arith, s.left); order = s.order; reaches = s.reaches };
     }
 
-    pub step_rest : r < to → to ≤ r + z → Reaches eqb x r (to - r)
-    step_rest h u = reaches_inside x from to r (to - r) s.reaches s.left (reaches_shorter eqb x (r - from) (to - r) z known (omega arith)) (omega arith)
+    pub step_edge : r < to → to ≤ r + z → Reaches eqb x r (to - r)
+    step_edge h u = reaches_inside x from to r (to - r) s.reaches s.left (reaches_shorter eqb x (r - from) (to - r) z known (omega arith)) (omega arith)
+
+  -- the same of how many readings are left of the stretch
+  module _ (h : r < to) (z : ℕ) (e : z ≡ get_or t (r - from) 0) where
+    pub step_known : z < to - r → Reached x r z from to
+    step_known u = step_inside z e (omega arith)
+
+    pub step_rest : to - r ≤ z → Reaches eqb x r (to - r)
+    step_rest u = step_edge z e h (omega arith)
 
 -- ---- `fill` and `rows`
 

@@ -6,7 +6,7 @@ use Rattle.words.specs.Tables.{Column}
 use Rattle.words.specs.Words.{total}
 use Rattle.words.proofs.Tables.{Holds}
 use Rattle.lines.specs.Text.{bytes, decimal, field, tail, line, field_room, Page}
-use Rattle.lines.proofs.Texts.{Listed, listed_room, listed_more}
+use Rattle.lines.proofs.Texts.{Listed, listed_room, listed_more, ListedHere}
 use Rattle.reporting.specs.Texts.{table_lines, row_room, entries, row_line, row_lines, five, rows_text}
 
 -- ---- `row`
@@ -25,8 +25,14 @@ module _ (ts : List (Bor (List ℕ))) (r : ℕ) {before after : Page} {i n : ℕ
   pub entry_room : length before.said + field_room * length ts ≤ before.room → length after.said + (1 + length (decimal n)) ≤ after.room
   entry_room l = listed_room c (e ∙ sym (get_or_entries ts r i d h)) s (rw length_entries h) (rw length_entries l)
 
-  pub entry_more : {p : Page} → p.said ≡ after.said ++ field n → p.room ≡ after.room → p.buffer ≡ after.buffer → Listed (entries ts r) before p (i + 1)
-  entry_more f g b = listed_more c (e ∙ sym (get_or_entries ts r i d h)) s (rw length_entries h) f g b
+  pub entry_more : {p : Page} → p.said ≡ after.said ++ field n → p.room ≡ after.room → Listed (entries ts r) before p (i + 1)
+  entry_more f g = listed_more c (e ∙ sym (get_or_entries ts r i d h)) s (rw length_entries h) f g
+
+-- the same in one buffer
+module _ (ts : List (Bor (List ℕ))) (r : ℕ) {before after : Page} {i n : ℕ} (c : ListedHere (entries ts r) before after i) (d : Bor (List ℕ)) (e : n ≡ get_or (get_or ts i d).now r 0)
+    (s : n < 65536) (h : i < length ts) where
+  pub entry_here_more : {p : Page} → p.said ≡ after.said ++ field n → p.room ≡ after.room → p.buffer ≡ after.buffer → ListedHere (entries ts r) before p (i + 1)
+  entry_here_more f g b = record { listed = entry_more ts r c.listed d e s h f g; buffer = b ∙ c.buffer }
 
 -- the whole line
 pub row_said : (a : List ℕ) (ts : List (Bor (List ℕ))) (r : ℕ) {b c : Page} {e : List ℕ} {i : ℕ} → Listed (entries ts r) b c i → length ts ≤ i → b.said ≡ a ++ decimal (r + 1)
@@ -40,25 +46,35 @@ row_said a ts r {i = i} d h p q = rw (q, d.said, p, take_all i (entries ts r) (r
 pub record Rowed (ts : List (Bor (List ℕ))) (before after : Page) (r : ℕ) : Type 0 where
   pub said : after.said ≡ before.said ++ table_lines ts r
   pub room : after.room ≡ before.room
-  pub buffer : after.buffer ≡ before.buffer
   pub short : length after.said ≤ length before.said + row_room * r
 
 pub rowed_none : (ts : List (Bor (List ℕ))) (p : Page) → Rowed ts p p 0
 unfolding table_lines
-rowed_none ts p = record { said = sym (append-nil p.said); room = refl; buffer = refl; short = omega arith }
+rowed_none ts p = record { said = sym (append-nil p.said); room = refl; short = omega arith }
 
 lines_more : (ts : List (Bor (List ℕ))) (r : ℕ) → table_lines ts (r + 1) ≡ table_lines ts r ++ line (decimal (r + 1)) (entries ts r)
 unfolding table_lines
 lines_more ts r = ap (λ (k : ℕ). table_lines ts k) (add-one r)
 
 pub rowed_more : {ts : List (Bor (List ℕ))} {a b c : Page} {r : ℕ} → Rowed ts a b r → c.said ≡ b.said ++ line (decimal (r + 1)) (entries ts r) → c.room ≡ b.room
-    → c.buffer ≡ b.buffer → length c.said ≤ length b.said + row_room → Rowed ts a c (r + 1)
-rowed_more d p e k s = record {
+    → length c.said ≤ length b.said + row_room → Rowed ts a c (r + 1)
+rowed_more d p e s = record {
   said = rw (p, d.said, append_assoc, lines_more) refl;
   room = e ∙ d.room;
-  buffer = k ∙ d.buffer;
   short = omega (arith, d.short);
 }
+
+-- the same in one buffer
+pub record RowedHere (ts : List (Bor (List ℕ))) (before after : Page) (r : ℕ) : Type 0 where
+  pub rowed : Rowed ts before after r
+  pub buffer : after.buffer ≡ before.buffer
+
+pub rowed_here_none : (ts : List (Bor (List ℕ))) (p : Page) → RowedHere ts p p 0
+rowed_here_none ts p = record { rowed = rowed_none ts p; buffer = refl }
+
+pub rowed_here_more : {ts : List (Bor (List ℕ))} {a b c : Page} {r : ℕ} → RowedHere ts a b r → c.said ≡ b.said ++ line (decimal (r + 1)) (entries ts r) → c.room ≡ b.room
+    → c.buffer ≡ b.buffer → length c.said ≤ length b.said + row_room → RowedHere ts a c (r + 1)
+rowed_here_more d p e k s = record { rowed = rowed_more d.rowed p e s; buffer = k ∙ d.buffer }
 
 -- ---- the columns of a log
 
