@@ -1,4 +1,4 @@
--- What each way through the prefix table's functions comes to, on plain lists and numbers. Assumes nothing.
+-- What each way through the prefix table's functions comes to, on plain lists and numbers: said of lengths, and then of places of the log, which the functions hand each other. Assumes nothing.
 use Rattle.std.proofs.Common.{◌≡◌, sym, ◌∙◌, List, ℕ, ◌+◌, ◌-◌, ◌^◌, ◌≤◌, ◌<◌, arith, length, get_or, eqb, eq-eqb, eqb-true, w16, w64, Fits}
 use Rattle.prefix.specs.Stretch.{Stretch, Reached}
 use Rattle.words.specs.Tables.{prefix_row}
@@ -19,7 +19,7 @@ module _ {x : List ℕ} {r k : ℕ} (c : Reaches eqb x r k) where
   pub scan_end : length x - r ≤ k → length x - r ≡ prefix_row x r
   scan_end h = let e : length x - r ≡ k = omega arith in e ∙ prefix_is eqb x r k c (λ l _. omega arith)
 
--- the same of k as a place of the log
+-- the same of the place k
 module _ {x : List ℕ} {r k : ℕ} (h : r ≤ k) (c : Reaches eqb x r (k - r)) where
   pub stretch_stop : (get_or x (k - r) 0 ≡ get_or x k 0 → ⊥) → k ≡ r + prefix_row x r
   stretch_stop ne = omega (arith, h, scan_stop c (λ e. ne (e ∙ at x (omega arith))))
@@ -29,6 +29,7 @@ module _ {x : List ℕ} {r k : ℕ} (h : r ≤ k) (c : Reaches eqb x r (k - r)) 
 
 -- ---- `compare`
 
+-- where the stretch ends is no number too large
 pub compare_fits : (x : List ℕ) (r p : ℕ) → p ≡ prefix_row x r → r < length x → length x < 2 ^ 64 → Fits w64 (r + p)
 compare_fits x r p e h u = omega (arith, row_bound x r p e h)
 
@@ -39,7 +40,7 @@ compare_done x r p e s h =
       stretch = record { later = s; left = omega arith; order = omega arith; reaches = rw (w, e) (prefix_reaches eqb x r (omega arith)) };
     }
 
--- the same of where the stretch ends
+-- the same of the place where the stretch ends
 pub stretch_done : (x : List ℕ) (r end : ℕ) → end ≡ r + prefix_row x r → 0 < r → r < length x → Reached x r (end - r) r end
 stretch_done x r end e s h = let w : r + (end - r) ≡ end = omega arith in rw w at (compare_done x r (end - r) (omega arith) s h)
 
@@ -49,7 +50,7 @@ module _ {x t : List ℕ} {r from to : ℕ} (f : Filled prefix_row x t r) (s : S
   pub step_none : Reaches eqb x r 0
   step_none = reaches_none eqb x r (omega (arith, f.inside))
 
-  -- the same of r as a place of the log
+  -- the same of the place r
   pub step_anew : Reaches eqb x r (r - r)
   step_anew = reaches_shorter eqb x r (r - r) 0 step_none (omega arith)
 
@@ -77,7 +78,7 @@ module _ {x t : List ℕ} {r from to : ℕ} (f : Filled prefix_row x t r) (s : S
     pub step_edge : r < to → to ≤ r + z → Reaches eqb x r (to - r)
     step_edge h u = reaches_inside x from to r (to - r) s.reaches s.left (reaches_shorter eqb x (r - from) (to - r) z known (omega arith)) (omega arith)
 
-  -- the same of how many readings are left of the stretch
+  -- both said of how many readings are left of the stretch
   module _ (h : r < to) (z : ℕ) (e : z ≡ get_or t (r - from) 0) where
     pub step_known : z < to - r → Reached x r z from to
     step_known u = step_inside z e (omega arith)
