@@ -1,4 +1,4 @@
--- What each way through the prefix table's functions comes to, on plain lists and numbers: said of lengths, and then of places of the log, which the functions hand each other. Assumes nothing.
+-- What each way through the prefix table's functions comes to, on plain lists and numbers: of lengths, and of places of the log, which is what the functions hand each other. Assumes nothing.
 use Rattle.std.proofs.Common.{◌≡◌, sym, ◌∙◌, List, ℕ, ◌+◌, ◌-◌, ◌^◌, ◌≤◌, ◌<◌, arith, length, get_or, eqb, eq-eqb, eqb-true, w16, w64, Fits}
 use Rattle.prefix.specs.Stretch.{Stretch, Reached}
 use Rattle.words.specs.Tables.{prefix_row}
@@ -29,7 +29,7 @@ module _ {x : List ℕ} {r k : ℕ} (h : r ≤ k) (c : Reaches eqb x r (k - r)) 
 
 -- ---- `compare`
 
--- where the stretch ends is no number too large
+-- the place where the stretch ends fits a word
 pub compare_fits : (x : List ℕ) (r p : ℕ) → p ≡ prefix_row x r → r < length x → length x < 2 ^ 64 → Fits w64 (r + p)
 compare_fits x r p e h u = omega (arith, row_bound x r p e h)
 
@@ -78,7 +78,7 @@ module _ {x t : List ℕ} {r from to : ℕ} (f : Filled prefix_row x t r) (s : S
     pub step_edge : r < to → to ≤ r + z → Reaches eqb x r (to - r)
     step_edge h u = reaches_inside x from to r (to - r) s.reaches s.left (reaches_shorter eqb x (r - from) (to - r) z known (omega arith)) (omega arith)
 
-  -- both said of how many readings are left of the stretch
+  -- the same, with z against how many readings of the stretch are left
   module _ (h : r < to) (z : ℕ) (e : z ≡ get_or t (r - from) 0) where
     pub step_known : z < to - r → Reached x r z from to
     step_known u = step_inside z e (omega arith)
